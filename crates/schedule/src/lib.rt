@@ -1,0 +1,5 @@
+pub mod command;
+mod fields;
+mod number;
+mod parsing;
+mod pieces;
