@@ -35,11 +35,11 @@ clear-tail b c s h k l = h (suc k) (omega arith)
 clear-head : (b c : ℕ) (s : List ℕ) → Clear b (c ∷ s) → eqb c b ≡ false
 clear-head b c s h = apart c b (h 0 (omega arith))
 
-fields-whole : (p : List ℕ) → Clear space p → fields p ≡ p ∷ []
+pub fields-whole : (p : List ℕ) → Clear space p → fields p ≡ p ∷ []
 fields-whole [] h = refl
 fields-whole (c ∷ p) h = rw (clear-head space c p h, fields-whole p (clear-tail space c p h)) refl
 
-fields-before : (p t : List ℕ) → Clear space p → fields (p ++ (space ∷ t)) ≡ p ∷ fields t
+pub fields-before : (p t : List ℕ) → Clear space p → fields (p ++ (space ∷ t)) ≡ p ∷ fields t
 fields-before [] t h = refl
 fields-before (c ∷ p) t h = rw (clear-head space c p h, fields-before p t (clear-tail space c p h)) refl
 

@@ -1,3 +1,5 @@
 pub mod Sums
 pub mod Cuts
 pub mod Letters
+pub mod Numerals
+pub mod Writing

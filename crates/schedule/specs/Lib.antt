@@ -2,3 +2,4 @@ pub mod Pieces
 pub mod Fields
 pub mod Numbers
 pub mod Grammar
+pub mod Written

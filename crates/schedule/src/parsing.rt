@@ -2,6 +2,7 @@
 ghost use mathlib.Core.Path.{_≡_};
 ghost use Rattle.schedule.specs.Pieces.{«fields-left»};
 ghost use Rattle.schedule.specs.Grammar.{«read-of», «write-of», lettered as «by-letter», parsed};
+ghost use Rattle.schedule.specs.Written.{Taken};
 use crate::command::Command;
 use crate::command::Expected;
 use crate::command::Misfit;
@@ -39,7 +40,8 @@ fn lettered(letter: char, fields: Fields) -> Result<Command, Misfit>
 
 // The command that a line is, or the first field that makes it none.
 pub fn parse(line: &[u8]) -> Result<Command, Misfit>
-    ensures { λ r. ⌜ r ≡ parsed (now (line .entry)) ⌝ }
+    ensures value { λ r. ⌜ r ≡ parsed (now (line .entry)) ⌝ }
+    ensures taken { λ r. ⌜ Taken (now (line .entry)) r ⌝ }
 {
     match line {
         [] => Err(Misfit { field: 1, expected: Expected::Letter }),
