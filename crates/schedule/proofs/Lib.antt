@@ -3,3 +3,4 @@ pub mod Cuts
 pub mod Letters
 pub mod Numerals
 pub mod Writing
+pub mod FirstLine

@@ -3,3 +3,4 @@ pub mod Fields
 pub mod Numbers
 pub mod Grammar
 pub mod Written
+pub mod Choices

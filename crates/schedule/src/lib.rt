@@ -1,3 +1,4 @@
+pub mod choice;
 pub mod command;
 mod fields;
 mod number;
