@@ -8,11 +8,11 @@ use native.Mathlib.Omega.{arith}
 use lib.Dec.{eqb}
 use lib.ListN.{length, getD, take, drop}
 use denote.Ref.{RefT, now}
-use Rattle.std.proofs.shelf.Lists.{take-rest, drop-more, take-append-drop, length-take-le, getD-take}
+use Rattle.std.proofs.shelf.Lists.{take-rest, drop-more, take-append-drop, length-take-le, length-append, getD-take}
 use Rattle.std.proofs.shelf.Ways.{tells}
 use Rattle.std.specs.declared.option.Option.{Option}
 use Rattle.std.specs.declared.option.Option.the-variants.{Some, None}
-use Rattle.schedule.specs.Pieces.{space, line-feed, longer, fields, lines, Clear, Cut, fields-left, lines-left}
+use Rattle.schedule.specs.Pieces.{space, line-feed, longer, fields, lines, Clear, Cut, fields-left, lines-left, bytes-left}
 
 -- cut at index i, the first that has the byte b; the parts are written as slices give them
 pub cut-at : (s : List ℕ) (b i : ℕ) → i < length s → getD s i 0 ≡ b → ((k : ℕ) → k < i → getD s k 0 ≡ b → ⊥)
@@ -62,3 +62,12 @@ pub lines-cut : (s p : List ℕ) (t : Option (RefT (List ℕ))) → 0 < length s
 lines-cut s [] None l h = absurd (omega (arith, ap length (h .0)))
 lines-cut s (c ∷ p) None l h = ap lines (h .0) ∙ lines-whole c p (h .1)
 lines-cut s p (Some t) l h = ap lines (h .0) ∙ lines-before p (now t) (h .1)
+
+-- what is left after a cut is shorter
+pub cut-shorter : (b : ℕ) (s p : List ℕ) (t : Option (RefT (List ℕ))) → 0 < length s → Cut b s p t → bytes-left t < length s
+cut-shorter b s p None l h = l
+cut-shorter b s p (Some t) l h = omega (arith, ap length (h .0) ∙ length-append p (b ∷ now t))
+
+pub lines-none : (s : List ℕ) → length s ≡ 0 → lines s ≡ []
+lines-none [] h = refl
+lines-none (b ∷ s) h = absurd (omega arith)

@@ -1,5 +1,6 @@
 pub mod Pieces
 pub mod Fields
+pub mod Lines
 pub mod Numbers
 pub mod Grammar
 pub mod Written

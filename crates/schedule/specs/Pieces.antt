@@ -48,3 +48,8 @@ fields-left (Some s) = fields (now s)
 abbrev pub lines-left : Option (RefT (List ℕ)) → List (List ℕ)
 lines-left None = []
 lines-left (Some s) = lines (now s)
+
+-- how many bytes are left
+abbrev pub bytes-left : Option (RefT (List ℕ)) → ℕ
+bytes-left None = 0
+bytes-left (Some s) = length (now s)
