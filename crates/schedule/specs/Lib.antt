@@ -4,4 +4,6 @@ pub mod Lines
 pub mod Numbers
 pub mod Grammar
 pub mod Written
+pub mod Faults
+pub mod Texts
 pub mod Choices

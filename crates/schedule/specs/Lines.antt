@@ -13,10 +13,6 @@ use Rattle.std.specs.declared.option.Option.the-variants.{Some, None}
 use Rattle.schedule.specs.Pieces.{line-feed, lines, Clear}
 use Rattle.schedule.specs.declared.lines.Line.{Line}
 
--- how many bytes a text may have
-abbrev pub longest-text : ℕ
-longest-text = 60000
-
 -- from n lines read and `before` to come, the next line with its number, to `after`; or the end
 abbrev pub Hands-out : ℕ → List (List ℕ) → Option Line → ℕ → List (List ℕ) → Type 0
 Hands-out n before None m after = (before ≡ []) × (after ≡ []) × (m ≡ n)

@@ -1,8 +1,10 @@
 pub mod choice;
 pub mod command;
+pub mod fault;
 mod fields;
 mod lines;
 mod number;
 mod parsing;
 mod pieces;
 mod reader;
+mod text;
