@@ -5,3 +5,4 @@ pub mod Letters
 pub mod Numerals
 pub mod Writing
 pub mod FirstLine
+pub mod Reports

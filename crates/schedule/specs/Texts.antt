@@ -40,20 +40,20 @@ abbrev pub command-at : ℕ → Result Command Misfit → Result Command BadLine
 command-at n (Ok c) = Ok c
 command-at n (Err w) = Err (record { line = n; misfit = w })
 
--- the fault of the first line
-abbrev pub header-faults : {A F : Type 0} → Result A (TextFault F) → List (TextFault F)
-header-faults (Ok x) = []
-header-faults (Err f) = f ∷ []
+-- the same, with the fault as the text's
+abbrev pub judged : {F : Type 0} → ℕ → Result Command Misfit → Result Command (TextFault F)
+judged n (Ok c) = Ok c
+judged n (Err w) = Err (Misshapen n w)
 
--- the fault of line n
-abbrev pub line-faults : {F : Type 0} → ℕ → Result Command Misfit → List (TextFault F)
-line-faults n (Ok c) = []
-line-faults n (Err w) = Misshapen n w ∷ []
+-- the fault that an answer holds, if it holds one
+abbrev pub fault-in : {A F : Type 0} → Result A (TextFault F) → List (TextFault F)
+fault-in (Ok x) = []
+fault-in (Err f) = f ∷ []
 
 -- the faults of the lines from line n on
 abbrev pub faults-from : {F : Type 0} → ℕ → List (List ℕ) → List (TextFault F)
 faults-from n [] = []
-faults-from n (l ∷ ls) = line-faults n (parsed l) ++ faults-from (n + 1) ls
+faults-from n (l ∷ ls) = fault-in (judged n (parsed l)) ++ faults-from (n + 1) ls
 
 -- the faults of all lines but the first
 abbrev pub command-faults : {F : Type 0} → List (List ℕ) → List (TextFault F)
@@ -62,7 +62,7 @@ command-faults (l ∷ ls) = faults-from 2 ls
 
 -- all faults of a text, in the order of its lines; of a text that is too long only that
 abbrev pub faults : {F : Type 0} → List ℕ → List (TextFault F)
-faults s = header-faults (header-of s) ++ cond (ltb longest-text (length s)) [] (command-faults (lines s))
+faults s = fault-in (header-of s) ++ cond (ltb longest-text (length s)) [] (command-faults (lines s))
 
 -- how many lines of a text are looked at
 abbrev pub looked-at : List ℕ → ℕ

@@ -7,4 +7,5 @@ mod number;
 mod parsing;
 mod pieces;
 mod reader;
+mod report;
 mod text;

@@ -28,7 +28,8 @@ impl Line<'_> {
     }
 }
 
-fn within_limit(text: &[u8]) -> Result<(), OverLong>
+// A text that is not too long to be read.
+pub(crate) fn within_limit(text: &[u8]) -> Result<(), OverLong>
     ensures { λ r. ⌜ r ≡ «short-enough» (now (text .entry)) ⌝ }
 {
     if text.len() > LONGEST_TEXT {
