@@ -6,4 +6,5 @@ pub mod Grammar
 pub mod Written
 pub mod Faults
 pub mod Texts
+pub mod Shown
 pub mod Choices

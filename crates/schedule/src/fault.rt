@@ -1,6 +1,6 @@
 // What can be wrong with a schedule text.
 ghost use mathlib.Core.Path.{_≡_};
-ghost use Rattle.schedule.specs.Faults.{«fault-number»};
+ghost use Rattle.schedule.specs.Faults.{«fault-line», «fault-number»};
 ghost use Rattle.schedule.specs.declared.fault.TextFault.the-variants.{Misshapen as misshapen, TooLong as «too-long», Refused as refused};
 use crate::command::Misfit;
 use refusal::Refusal;
@@ -18,6 +18,20 @@ pub enum TextFault<F> {
     TooLong,
     // the table refused the command of a line
     Refused { line: usize, fault: F },
+}
+
+impl<F> TextFault<F> {
+    // The line that it is printed under.
+    pub fn line(&self) -> usize
+        ensures { λ r. ⌜ r ≡ «fault-line» (now (self .entry)) ⌝ }
+    {
+        match self {
+            TextFault::Misshapen { line, .. } => *line,
+            TextFault::NoPolicy => 1,
+            TextFault::TooLong => 0,
+            TextFault::Refused { line, .. } => *line,
+        }
+    }
 }
 
 // A line that is no command.

@@ -1,11 +1,13 @@
+// The schedule text: which lines it has, which policy and commands they are, and where it lacks the form.
 pub mod choice;
 pub mod command;
+pub mod display;
 pub mod fault;
 mod fields;
-mod lines;
+pub mod lines;
 mod number;
-mod parsing;
+pub mod parsing;
 mod pieces;
-mod reader;
-mod report;
-mod text;
+pub mod reader;
+pub mod report;
+pub mod text;
