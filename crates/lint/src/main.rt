@@ -1,9 +1,9 @@
 // Reads a schedule text from standard input and prints what is wrong with it.
+use refusal::NoRefusal;
+use schedule::display::TextFaultDisplay;
 use schedule::report::check;
 use std::io;
 use std::io::Read;
-use refusal::NoRefusal;
-use schedule::display::TextFaultDisplay;
 
 // One byte more than a text may have, so that a text that is too long is seen to be.
 const MOST_READ: u64 = 60_001;

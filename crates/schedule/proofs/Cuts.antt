@@ -21,6 +21,7 @@ cut-at s b i h e before = rw (sub-zero, take-rest s (i + 1)) (whole, clear)
   where
     whole : s ≡ take i s ++ (b ∷ drop (i + 1) s)
     whole = sym (take-append-drop i s) ∙ ap (λ (r : List ℕ). take i s ++ r) (drop-more s i 0 h ∙ ap (λ (x : ℕ). x ∷ drop (i + 1) s) e)
+
     clear : Clear b (take i s)
     clear k l q =
         let n : k < i = omega (arith, length-take-le i s (omega arith)) in

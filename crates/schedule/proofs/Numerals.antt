@@ -48,9 +48,10 @@ number-written top n (b ∷ c ∷ s) small e = by (eqb b 48) refl
     by true q = absurd (none-some (rw q at e))
     by false q =
         let d = digits-are top n (b ∷ c ∷ s) (rw q at e) in
-        let first : b ≡ 48 → ⊥ = grind (arith, tells) in
-        ( sym (decimal-value own (b ∷ c ∷ s) (d .0) (omega arith) (λ (z : b ≡ 48). absurd (first z)) (omega (arith, d .1))) ∙ ap decimal (d .1)
-        , d .2 )
+        let first : b ≡ 48 → ⊥ = grind (arith, tells) in (
+          sym (decimal-value own (b ∷ c ∷ s) (d .0) (omega arith) (λ (z : b ≡ 48). absurd (first z)) (omega (arith, d .1))) ∙ ap decimal (d .1),
+          d .2,
+        )
 
 -- only 0 is written with one digit 0 in front
 above-zero : (n b : ℕ) (s : List ℕ) → decimal n ≡ b ∷ s → 0 < length s → 0 < n
@@ -68,10 +69,12 @@ number-reads top n small h = by (decimal n) refl
   where
     large : n < 2 ^ 64
     large = omega arith
+
     reads : (s : List ℕ) → decimal n ≡ s → digits-after top 0 s ≡ Some n
     reads s e =
         let v : value-after 0 s ≡ n = ap (value-after 0) (sym e) ∙ value-decimal own n large in
         digits-read top s (subst (λ (x : List ℕ). allDigits x ≡ true) e (digits-decimal own n large)) (omega arith) ∙ ap Some v
+
     by : (s : List ℕ) → decimal n ≡ s → number-field top s ≡ Some n
     by [] e = absurd (omega (arith, decimal-some n large, ap length e))
     by (b ∷ []) e = reads (b ∷ []) e
@@ -99,12 +102,14 @@ value-written z (b ∷ s) e = by (eqb b 45) refl
         let w = number-written lowest-value (suc n) s (omega arith) q in
         let g : negsuc n ≡ z = cc in
         subst (λ (y : ℤ). ((45 ∷ s) ≡ signed y) × In-value y) g (ap (λ (x : List ℕ). 45 ∷ x) (w .0), w .1)
+
     plain : (o : Option ℕ) → number-field highest-value (b ∷ s) ≡ o → mapped pos o ≡ Some z → ((b ∷ s) ≡ signed z) × In-value z
     plain None q f = absurd (none-some f)
     plain (Some n) q f =
         let w = number-written highest-value n (b ∷ s) (omega arith) q in
         let g : pos n ≡ z = cc in
         subst (λ (y : ℤ). ((b ∷ s) ≡ signed y) × In-value y) g w
+
     by : (t : Bool) → eqb b 45 ≡ t → ((b ∷ s) ≡ signed z) × In-value z
     by true q = rw (eqb-true b 45 q) (minus (number-field lowest-value s) refl (rw q at e))
     by false q = plain (number-field highest-value (b ∷ s)) refl (rw q at e)

@@ -104,7 +104,7 @@ by-task make l fs c range form e =
     let q = last-is (number-field highest-index) no-task 3 fs (p .1) in
     let w = index-is (q .0) (p .0) (q .2) in
     subst (Line-of l fs) (p .2)
-      (range (p .0) (w .1), line-one l (p .0) (q .1) (w .0) ∙ ap (λ (s : List ℕ). space ∷ s) (sym (form (p .0))))
+    (range (p .0) (w .1), line-one l (p .0) (q .1) (w .0) ∙ ap (λ (s : List ℕ). space ∷ s) (sym (form (p .0))))
 
 by-read : (fs : List (List ℕ)) (c : Command) → read-of fs ≡ Ok c → Line-of 82 fs c
 by-read fs c e =
@@ -114,7 +114,7 @@ by-read fs c e =
     let t = index-is (a .0) (a .2) (a .4) in
     let v = index-is (q .0) (p .0) (q .2) in
     subst (Line-of 82 fs) (p .2)
-      ((t .1, v .1), line-two 82 (a .2) (a .3) (t .0) (spaced-last (q .1) (v .0)))
+    ((t .1, v .1), line-two 82 (a .2) (a .3) (t .0) (spaced-last (q .1) (v .0)))
 
 by-write : (fs : List (List ℕ)) (c : Command) → write-of fs ≡ Ok c → Line-of 87 fs c
 by-write fs c e =
@@ -125,9 +125,10 @@ by-write fs c e =
     let t = index-is (a .0) (a .2) (a .4) in
     let v = index-is (b .0) (b .2) (b .4) in
     let n = value-written (p .0) (q .0) (q .2) in
-    subst (Line-of 87 fs) (p .2)
-      ( (t .1, v .1, n .1)
-      , line-two 87 (a .2) (a .3) (t .0) (spaced-more (b .3) (v .0) (spaced-last (q .1) (n .0))) )
+    subst (Line-of 87 fs) (p .2) (
+      (t .1, v .1, n .1),
+      line-two 87 (a .2) (a .3) (t .0) (spaced-more (b .3) (v .0) (spaced-last (q .1) (n .0))),
+    )
 
 -- the letters that are left to try after B, after R, and so on
 abbrev but-c : ℕ → List (List ℕ) → Result Command Misfit
@@ -148,18 +149,23 @@ lettered-is l fs c e = letter-b (eqb l 66) refl e
   where
     is : (x : ℕ) → eqb l x ≡ true → Line-of x fs c → Line-of l fs c
     is x q h = subst (λ (y : ℕ). Line-of y fs c) (sym (eqb-true l x q)) h
+
     letter-a : (t : Bool) → eqb l 65 ≡ t → cond t (made Abort (last-task fs)) (Err no-letter) ≡ Ok c → Line-of l fs c
     letter-a true q h = is 65 q (by-task Abort 65 fs c (λ t r. r) (λ t. refl) h)
     letter-a false q h = absurd (err-ok h)
+
     letter-c : (t : Bool) → eqb l 67 ≡ t → cond t (made Commit (last-task fs)) (but-c l fs) ≡ Ok c → Line-of l fs c
     letter-c true q h = is 67 q (by-task Commit 67 fs c (λ t r. r) (λ t. refl) h)
     letter-c false q h = letter-a (eqb l 65) refl h
+
     letter-w : (t : Bool) → eqb l 87 ≡ t → cond t (write-of fs) (but-w l fs) ≡ Ok c → Line-of l fs c
     letter-w true q h = is 87 q (by-write fs c h)
     letter-w false q h = letter-c (eqb l 67) refl h
+
     letter-r : (t : Bool) → eqb l 82 ≡ t → cond t (read-of fs) (but-r l fs) ≡ Ok c → Line-of l fs c
     letter-r true q h = is 82 q (by-read fs c h)
     letter-r false q h = letter-w (eqb l 87) refl h
+
     letter-b : (t : Bool) → eqb l 66 ≡ t → cond t (made Begin (last-task fs)) (but-b l fs) ≡ Ok c → Line-of l fs c
     letter-b true q h = is 66 q (by-task Begin 66 fs c (λ t r. r) (λ t. refl) h)
     letter-b false q h = letter-r (eqb l 82) refl h
@@ -194,8 +200,8 @@ write-fields : (t v : ℕ) (n : ℤ) → In-range (Write t v n) → fields (writ
 write-fields t v n h =
     task-more 87 t (decimal v ++ (space ∷ signed n)) refl (h .0)
     ∙ ap (λ (fs : List (List ℕ)). (87 ∷ []) ∷ decimal t ∷ fs)
-      ( fields-before (decimal v) (signed n) (index-clear v (h .1))
-      ∙ ap (λ (fs : List (List ℕ)). decimal v ∷ fs) (fields-whole (signed n) (signed-clear n (h .2))) )
+    (fields-before (decimal v) (signed n) (index-clear v (h .1))
+    ∙ ap (λ (fs : List (List ℕ)). decimal v ∷ fs) (fields-whole (signed n) (signed-clear n (h .2))))
 
 -- what is written of a command is read as that command
 reads-back : (c : Command) → In-range c → parsed (written c) ≡ Ok c
@@ -209,5 +215,6 @@ reads-back (Abort t) h = ap command-of (task-fields 65 t refl h) ∙ rw (index-r
 -- the law of parsing
 pub taken : (s : List ℕ) (r : Result Command Misfit) → r ≡ parsed s → Taken s r
 taken s r e = record {
-    is-written = λ c q. command-is s (fields s) c refl (sym e ∙ q);
-    reads-back = λ c h q. e ∙ ap parsed q ∙ reads-back c h }
+  is-written = λ c q. command-is s (fields s) c refl (sym e ∙ q);
+  reads-back = λ c h q. e ∙ ap parsed q ∙ reads-back c h;
+}

@@ -24,7 +24,7 @@ abbrev pub longest-text : ℕ
 longest-text = 60000
 
 abbrev pub short-enough : List ℕ → Result (Unit {0}) OverLong
-short-enough s = cond (ltb longest-text (length s)) (Err (record { })) (Ok tt)
+short-enough s = cond (ltb longest-text (length s)) (Err (record {})) (Ok tt)
 
 -- the policy that the first line names
 abbrev pub named-by : {F : Type 0} → List (List ℕ) → Result Choice (TextFault F)

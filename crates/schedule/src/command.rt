@@ -26,3 +26,23 @@ pub struct Misfit {
     pub field: u8,
     pub expected: Expected,
 }
+
+pub(crate) const NO_LETTER: Misfit = Misfit {
+    field: 1,
+    expected: Expected::Letter,
+};
+
+pub(crate) const NO_TASK: Misfit = Misfit {
+    field: 2,
+    expected: Expected::Task,
+};
+
+pub(crate) const NO_VARIABLE: Misfit = Misfit {
+    field: 3,
+    expected: Expected::Variable,
+};
+
+pub(crate) const NO_VALUE: Misfit = Misfit {
+    field: 4,
+    expected: Expected::Value,
+};

@@ -4,9 +4,9 @@ ghost use Rattle.std.specs.declared.option.Option.the-variants.{Some};
 ghost use Rattle.schedule.specs.Shown.{«expected-text», «policies-text», «limit-text», «fault-text»};
 use crate::command::Expected;
 use crate::fault::TextFault;
+use crate::fault::TextRefusal;
 use refusal::Refusal;
 use std::fmt;
-use crate::fault::TextRefusal;
 
 impl Expected {
     fn text(self) -> &'static str

@@ -3,9 +3,9 @@ ghost use mathlib.Core.Path.{_≡_};
 ghost use Rattle.schedule.specs.Faults.{«fault-line», «fault-number»};
 ghost use Rattle.schedule.specs.declared.fault.TextFault.the-variants.{Misshapen as misshapen, TooLong as «too-long», Refused as refused};
 use crate::command::Misfit;
-use refusal::Refusal;
 use crate::command::MisfitDebug;
 use crate::command::MisfitPartialEq;
+use refusal::Refusal;
 
 // A text's fault; `F` is the fault of the table that the text is run on.
 #[derive(Clone, Copy, Debug, PartialEq, Eq)]
@@ -56,7 +56,10 @@ pub impl<F> From<BadLine> for TextFault<F> as FromBadLine {
     ghost converts = { λ b r. r ≡ misshapen (b .line) (b .misfit) };
 
     fn from(bad: BadLine) -> TextFault<F> {
-        TextFault::Misshapen { line: bad.line, misfit: bad.misfit }
+        TextFault::Misshapen {
+            line: bad.line,
+            misfit: bad.misfit,
+        }
     }
 }
 

@@ -7,6 +7,9 @@ ghost use Rattle.schedule.specs.Fields.{Next, Takes, Ends};
 ghost use Rattle.schedule.specs.Grammar.{«no-task», «no-variable», «no-value», «no-end», «last-task», «last-variable», «last-value»};
 use crate::command::Expected;
 use crate::command::Misfit;
+use crate::command::NO_TASK;
+use crate::command::NO_VALUE;
+use crate::command::NO_VARIABLE;
 use crate::number::index_field;
 use crate::number::value_field;
 use crate::pieces::cut;
@@ -58,22 +61,21 @@ impl<'a> Fields<'a> {
     pub(crate) fn task(&mut self) -> Result<u8, Misfit>
         ensures { λ r. ⌜ Takes («number-field» «highest-index») «no-task» («fields-left» (now (self .entry) .left)) r («fields-left» (now (self .exit) .left)) ⌝ }
     {
-        self.index(Misfit { field: 2, expected: Expected::Task })
+        self.index(NO_TASK)
     }
 
     pub(crate) fn variable(&mut self) -> Result<u8, Misfit>
         ensures { λ r. ⌜ Takes («number-field» «highest-index») «no-variable» («fields-left» (now (self .entry) .left)) r («fields-left» (now (self .exit) .left)) ⌝ }
     {
-        self.index(Misfit { field: 3, expected: Expected::Variable })
+        self.index(NO_VARIABLE)
     }
 
     fn value(&mut self) -> Result<i32, Misfit>
         ensures { λ r. ⌜ Takes «value-field» «no-value» («fields-left» (now (self .entry) .left)) r («fields-left» (now (self .exit) .left)) ⌝ }
     {
-        let wrong = Misfit { field: 4, expected: Expected::Value };
         match self.next() {
-            Some(field) => value_field(field).ok_or(wrong),
-            None => Err(wrong),
+            Some(field) => value_field(field).ok_or(NO_VALUE),
+            None => Err(NO_VALUE),
         }
     }
 
@@ -82,7 +84,10 @@ impl<'a> Fields<'a> {
         ensures { λ r. ⌜ Ends («no-end» field) («fields-left» (self .entry .left)) r ⌝ }
     {
         match self.next() {
-            Some(_) => Err(Misfit { field, expected: Expected::End }),
+            Some(_) => Err(Misfit {
+                field,
+                expected: Expected::End,
+            }),
             None => Ok(()),
         }
     }

@@ -6,6 +6,7 @@ ghost use Rattle.schedule.specs.Numbers.{«digits-after», «number-field», �
 ghost use Rattle.schedule.specs.Numbers.{«highest-index», «lowest-value»};
 
 const HIGHEST_INDEX: u32 = 255;
+
 const HIGHEST_VALUE: u32 = 2147483647;
 // The lowest value is the negative of this.
 const LOWEST_VALUE: u32 = 2147483648;

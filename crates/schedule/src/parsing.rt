@@ -4,8 +4,8 @@ ghost use Rattle.schedule.specs.Pieces.{«fields-left»};
 ghost use Rattle.schedule.specs.Grammar.{«read-of», «write-of», lettered as «by-letter», parsed};
 ghost use Rattle.schedule.specs.Written.{Taken};
 use crate::command::Command;
-use crate::command::Expected;
 use crate::command::Misfit;
+use crate::command::NO_LETTER;
 use crate::fields::Fields;
 
 fn read(mut fields: Fields) -> Result<Command, Misfit>
@@ -22,19 +22,29 @@ fn write(mut fields: Fields) -> Result<Command, Misfit>
     let task = fields.task()?;
     let variable = fields.variable()?;
     let value = fields.last_value()?;
-    Ok(Command::Write { task, variable, value })
+    Ok(Command::Write {
+        task,
+        variable,
+        value,
+    })
 }
 
 fn lettered(letter: char, fields: Fields) -> Result<Command, Misfit>
     ensures { λ r. ⌜ r ≡ «by-letter» letter («fields-left» (fields .entry .left)) ⌝ }
 {
     match letter {
-        'B' => Ok(Command::Begin { task: fields.last_task()? }),
+        'B' => Ok(Command::Begin {
+            task: fields.last_task()?,
+        }),
         'R' => read(fields),
         'W' => write(fields),
-        'C' => Ok(Command::Commit { task: fields.last_task()? }),
-        'A' => Ok(Command::Abort { task: fields.last_task()? }),
-        _ => Err(Misfit { field: 1, expected: Expected::Letter }),
+        'C' => Ok(Command::Commit {
+            task: fields.last_task()?,
+        }),
+        'A' => Ok(Command::Abort {
+            task: fields.last_task()?,
+        }),
+        _ => Err(NO_LETTER),
     }
 }
 
@@ -44,9 +54,9 @@ pub fn parse(line: &[u8]) -> Result<Command, Misfit>
     ensures taken { λ r. ⌜ Taken (now (line .entry)) r ⌝ }
 {
     match line {
-        [] => Err(Misfit { field: 1, expected: Expected::Letter }),
+        [] => Err(NO_LETTER),
         [letter] => lettered(char::from(*letter), Fields::none()),
         [letter, b' ', rest @ ..] => lettered(char::from(*letter), Fields::new(rest)),
-        _ => Err(Misfit { field: 1, expected: Expected::Letter }),
+        _ => Err(NO_LETTER),
     }
 }

@@ -11,7 +11,10 @@ impl<'a> Lines<'a> {
         ensures all { λ r. ⌜ («lines-left» (r .rest) ≡ lines (now (text .entry))) × (r .count ≡ 0) ⌝ }
         ensures whole { λ r. ⌜ Whole (now (text .entry)) («lines-left» (r .rest)) ⌝ }
     {
-        Lines { rest: Some(text), count: 0 }
+        Lines {
+            rest: Some(text),
+            count: 0,
+        }
     }
 }
 
@@ -31,7 +34,10 @@ pub impl<'a> Iterator for Lines<'a> as LinesIterator {
         }
         let (bytes, rest) = cut(text, b'\n');
         let number = self.count + 1;
-        *self = Lines { rest, count: number };
+        *self = Lines {
+            rest,
+            count: number,
+        };
         Some(Line { number, bytes })
     }
 }

@@ -8,16 +8,16 @@ ghost use Rattle.schedule.specs.Pieces.{lines};
 ghost use Rattle.schedule.specs.Grammar.{parsed};
 ghost use Rattle.schedule.specs.Texts.{judged, «fault-in», «command-faults», faults as «all-faults», «looked-at»};
 use crate::command::Command;
+use crate::fault::FromBadLine;
 use crate::fault::TextFault;
 use crate::lines::Line;
 use crate::lines::Lines;
+use crate::reader::LinesIterator as _;
 use crate::text::header;
 use crate::text::within_limit;
 use std::alloc::AllocError;
 use std::alloc::Global;
 use std::convert::Infallible;
-use crate::fault::FromBadLine;
-use crate::reader::LinesIterator as _;
 
 // The faults of a text in the order of its lines, and how many lines were looked at.
 #[derive(Drop)]
@@ -33,7 +33,10 @@ fn judge<F>(line: Line) -> Result<Command, TextFault<F>>
 }
 
 // Adds the fault that an answer holds, if it holds one.
-fn note<T: Drop>(answer: Result<T, TextFault<Infallible>>, faults: &mut Vec<TextFault<Infallible>>) -> Result<(), AllocError>
+fn note<T: Drop>(
+    answer: Result<T, TextFault<Infallible>>,
+    faults: &mut Vec<TextFault<Infallible>>,
+) -> Result<(), AllocError>
     ensures { λ r. ⌜ made r (λ _. vec-items (now (faults .exit)) ≡ vec-items (now (faults .entry)) ++ «fault-in» answer) ⌝ }
 {
     if let Err(fault) = answer {

@@ -6,12 +6,12 @@ use crate::choice::Choice;
 use crate::choice::choose;
 use crate::command::Command;
 use crate::fault::BadLine;
+use crate::fault::FromOverLong;
 use crate::fault::OverLong;
 use crate::fault::TextFault;
 use crate::lines::Line;
 use crate::lines::Lines;
 use crate::parsing::parse;
-use crate::fault::FromOverLong;
 use crate::reader::LinesIterator as _;
 
 const LONGEST_TEXT: usize = 60_000;
@@ -23,7 +23,10 @@ impl Line<'_> {
     {
         match parse(self.bytes) {
             Ok(command) => Ok(command),
-            Err(misfit) => Err(BadLine { line: self.number, misfit }),
+            Err(misfit) => Err(BadLine {
+                line: self.number,
+                misfit,
+            }),
         }
     }
 }

@@ -88,11 +88,41 @@ fn damaged_lines_name_their_field() -> Result<(), Fail> {
 
 #[test]
 fn what_was_expected_is_told() -> Result<(), Fail> {
-    check_eq(parse(b"X 1"), Err(Misfit { field: 1, expected: Expected::Letter }))?;
-    check_eq(parse(b"B 256"), Err(Misfit { field: 2, expected: Expected::Task }))?;
-    check_eq(parse(b"R 0 x"), Err(Misfit { field: 3, expected: Expected::Variable }))?;
-    check_eq(parse(b"W 0 5 x"), Err(Misfit { field: 4, expected: Expected::Value }))?;
-    check_eq(parse(b"C 0 1"), Err(Misfit { field: 3, expected: Expected::End }))
+    check_eq(
+        parse(b"X 1"),
+        Err(Misfit {
+            field: 1,
+            expected: Expected::Letter,
+        }),
+    )?;
+    check_eq(
+        parse(b"B 256"),
+        Err(Misfit {
+            field: 2,
+            expected: Expected::Task,
+        }),
+    )?;
+    check_eq(
+        parse(b"R 0 x"),
+        Err(Misfit {
+            field: 3,
+            expected: Expected::Variable,
+        }),
+    )?;
+    check_eq(
+        parse(b"W 0 5 x"),
+        Err(Misfit {
+            field: 4,
+            expected: Expected::Value,
+        }),
+    )?;
+    check_eq(
+        parse(b"C 0 1"),
+        Err(Misfit {
+            field: 3,
+            expected: Expected::End,
+        }),
+    )
 }
 
 #[test]
@@ -100,11 +130,39 @@ fn lines_at_the_limits_are_taken() -> Result<(), Fail> {
     check_eq(parse(b"B 0"), Ok(Command::Begin { task: 0 }))?;
     check_eq(parse(b"C 255"), Ok(Command::Commit { task: 255 }))?;
     check_eq(parse(b"A 10"), Ok(Command::Abort { task: 10 }))?;
-    check_eq(parse(b"R 255 255"), Ok(Command::Read { task: 255, variable: 255 }))?;
-    check_eq(parse(b"W 0 63 0"), Ok(Command::Write { task: 0, variable: 63, value: 0 }))?;
-    check_eq(parse(b"W 1 5 -7"), Ok(Command::Write { task: 1, variable: 5, value: -7 }))?;
-    let highest = Command::Write { task: 7, variable: 64, value: 2147483647 };
+    check_eq(
+        parse(b"R 255 255"),
+        Ok(Command::Read {
+            task: 255,
+            variable: 255,
+        }),
+    )?;
+    check_eq(
+        parse(b"W 0 63 0"),
+        Ok(Command::Write {
+            task: 0,
+            variable: 63,
+            value: 0,
+        }),
+    )?;
+    check_eq(
+        parse(b"W 1 5 -7"),
+        Ok(Command::Write {
+            task: 1,
+            variable: 5,
+            value: -7,
+        }),
+    )?;
+    let highest = Command::Write {
+        task: 7,
+        variable: 64,
+        value: 2147483647,
+    };
     check_eq(parse(b"W 7 64 2147483647"), Ok(highest))?;
-    let lowest = Command::Write { task: 7, variable: 64, value: -2147483648 };
+    let lowest = Command::Write {
+        task: 7,
+        variable: 64,
+        value: -2147483648,
+    };
     check_eq(parse(b"W 7 64 -2147483648"), Ok(lowest))
 }

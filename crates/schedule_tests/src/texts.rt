@@ -32,6 +32,7 @@ fn told(heap: Global, text: &[u8], lines: usize, faulty: usize, first: &str) -> 
 }
 
 const NO_POLICY: &str = "1 no 6: expected lock, own or clock, or eager, a space and one of these";
+
 const TOO_LONG: &str = "0 no 7: expected at most 60000 bytes";
 
 #[test]
@@ -48,7 +49,13 @@ fn a_last_line_needs_no_line_feed(rt: LibcRuntime) -> Result<(), Fail> {
     told(rt.alloc(), b"lock\n", 1, 0, "")?;
     told(rt.alloc(), b"lock\nB 0", 2, 0, "")?;
     told(rt.alloc(), b"lock\nB 0\n", 2, 0, "")?;
-    told(rt.alloc(), b"lock\nB 0\n\n", 3, 1, "3 no 5, field 1: expected B, R, W, C or A")?;
+    told(
+        rt.alloc(),
+        b"lock\nB 0\n\n",
+        3,
+        1,
+        "3 no 5, field 1: expected B, R, W, C or A",
+    )?;
     told(rt.alloc(), b"lock\r\nB 0\r\n", 2, 2, NO_POLICY)
 }
 
@@ -103,7 +110,10 @@ impl Refusal for Thirteen as ThirteenRefusal {
 }
 
 fn refused_at(line: usize) -> Result<(), TextFault<Thirteen>> {
-    Err(RefusedLine { line, fault: Thirteen })?;
+    Err(RefusedLine {
+        line,
+        fault: Thirteen,
+    })?;
     Ok(())
 }
 
@@ -120,6 +130,12 @@ fn a_tables_fault_keeps_its_number(rt: LibcRuntime) -> Result<(), Fail> {
 
 #[test]
 fn a_bad_line_has_number_five() -> Result<(), Fail> {
-    let misfit = Misfit { field: 2, expected: Expected::Task };
-    check_eq(TextFault::<Thirteen>::Misshapen { line: 3, misfit }.number(), 5)
+    let misfit = Misfit {
+        field: 2,
+        expected: Expected::Task,
+    };
+    check_eq(
+        TextFault::<Thirteen>::Misshapen { line: 3, misfit }.number(),
+        5,
+    )
 }

@@ -17,19 +17,19 @@ returns-in-empty c =
 pub returns-in-len1 : need.returns-in-len1
 returns-in-len1 c =
     let e : c .lettered .result ≡ parsed (c .args .line .now) =
-      c .lettered .ensures
-      ∙ ap (λ (fs : List (List ℕ)). lettered (c .from .result) fs) (c .none .ensures)
-      ∙ ap (λ (l : ℕ). lettered l []) (c .from .ensures)
-      ∙ sym (parsed-letter (c .args .line .now) (search needs)) in
+    c .lettered .ensures
+    ∙ ap (λ (fs : List (List ℕ)). lettered (c .from .result) fs) (c .none .ensures)
+    ∙ ap (λ (l : ℕ). lettered l []) (c .from .ensures)
+    ∙ sym (parsed-letter (c .args .line .now) (search needs)) in
     record { value = e; taken = taken (c .args .line .now) _ e }
 
 pub returns-in-32 : need.returns-in-32
 returns-in-32 c =
     let e : c .lettered-in-32 .result ≡ parsed (c .args .line .now) =
-      c .lettered-in-32 .ensures
-      ∙ ap (λ (l : ℕ). lettered l (fields-left (c .new .result .left))) (c .from-in-32 .ensures)
-      ∙ ap (λ (fs : List (List ℕ)). lettered (getD (c .args .line .now) 0 0) fs) (c .new .ensures)
-      ∙ sym (parsed-spaced (c .args .line .now) (search needs) (search needs)) in
+    c .lettered-in-32 .ensures
+    ∙ ap (λ (l : ℕ). lettered l (fields-left (c .new .result .left))) (c .from-in-32 .ensures)
+    ∙ ap (λ (fs : List (List ℕ)). lettered (getD (c .args .line .now) 0 0) fs) (c .new .ensures)
+    ∙ sym (parsed-spaced (c .args .line .now) (search needs) (search needs)) in
     record { value = e; taken = taken (c .args .line .now) _ e }
 
 pub returns-in-rest : need.returns-in-rest

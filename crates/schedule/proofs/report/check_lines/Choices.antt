@@ -13,4 +13,4 @@ Inv-loop-line l =
     (l .count ≡ l .line-iterator .count)
     × (l .count + length (lines-left (l .line-iterator .rest)) ≡ l .entry .count + length (lines-left (l .entry .line-iterator .rest)))
     × (vec-items (l .faults) ++ faults-from (l .count + 1) (lines-left (l .line-iterator .rest))
-       ≡ vec-items (l .entry .faults) ++ faults-from (l .entry .count + 1) (lines-left (l .entry .line-iterator .rest)))
+    ≡ vec-items (l .entry .faults) ++ faults-from (l .entry .count + 1) (lines-left (l .entry .line-iterator .rest)))

@@ -15,7 +15,6 @@ returns-then-is-empty c =
     let e : lines-left (c .args .self .now .rest) ≡ [] = ap lines-left (c .in-Continue-text .was tt) ∙ lines-none (c .in-Continue-text .text .now) none in
     record { steps = (e, e, refl); goes = record { on = λ _. tt } }
 
-
 pub ghost-self : need.ghost-self
 ghost-self c =
     let some : 0 < length (c .in-Continue-text .text .now) = let t = c .if-is-empty .ensures tt in grind (arith, tells) in
@@ -27,8 +26,11 @@ returns c =
     let some : 0 < length (c .in-Continue-text .text .now) = let t = c .if-is-empty .ensures tt in grind (arith, tells) in
     let less = cut-shorter line-feed (c .in-Continue-text .text .now) (c .cut .result .0 .now) (c .cut .result .1) some (c .cut .ensures) in
     record {
-      steps =
-        ( ap lines-left (c .in-Continue-text .was tt)
-          ∙ lines-cut (c .in-Continue-text .text .now) (c .cut .result .0 .now) (c .cut .result .1) some (c .cut .ensures)
-        , refl, refl );
-      goes = record { on = λ _. (tt, tt, omega (arith, less, ap bytes-left (c .in-Continue-text .was tt))) } }
+      steps = (
+        ap lines-left (c .in-Continue-text .was tt)
+            ∙ lines-cut (c .in-Continue-text .text .now) (c .cut .result .0 .now) (c .cut .result .1) some (c .cut .ensures),
+        refl,
+        refl,
+      );
+      goes = record { on = λ _. (tt, tt, omega (arith, less, ap bytes-left (c .in-Continue-text .was tt))) };
+    }
