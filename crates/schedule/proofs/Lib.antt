@@ -4,5 +4,7 @@ pub mod Feeds
 pub mod Letters
 pub mod Numerals
 pub mod Writing
+pub mod Departing
+pub mod Parsed
 pub mod FirstLine
 pub mod Reports

@@ -19,7 +19,7 @@ use Rattle.schedule.specs.declared.command.Misfit.{Misfit}
 use Rattle.schedule.specs.Pieces.{space, longer, fields, Clear}
 use Rattle.schedule.specs.Numbers.{number-field, value-field, highest-index}
 use Rattle.schedule.specs.Grammar.{no-letter, no-task, no-variable, no-value, given, next, ends, last, made, last-task, last-variable, last-value, read-of, write-of, lettered, command-of, parsed}
-use Rattle.schedule.specs.Written.{with-task, written, In-value, In-range, Taken}
+use Rattle.schedule.specs.Written.{with-task, written, In-value, In-range}
 use Rattle.schedule.proofs.Cuts.{fields-whole, fields-before}
 use Rattle.schedule.proofs.Numerals.{number-written, number-reads, value-written, value-reads, decimal-clear, signed-clear}
 
@@ -77,7 +77,7 @@ last-is reads wrong n fs e =
 abbrev Line-of : ℕ → List (List ℕ) → Command → Type 0
 Line-of l fs c = In-range c × (spaced ((l ∷ []) ∷ fs) ≡ space ∷ written c)
 
-index-is : (f : List ℕ) (n : ℕ) → number-field highest-index f ≡ Some n → (f ≡ decimal n) × (n ≤ highest-index)
+pub index-is : (f : List ℕ) (n : ℕ) → number-field highest-index f ≡ Some n → (f ≡ decimal n) × (n ≤ highest-index)
 index-is f n e = number-written highest-index n f (omega arith) e
 
 -- one, two or three fields after the letter, each known
@@ -131,16 +131,16 @@ by-write fs c e =
     )
 
 -- the letters that are left to try after B, after R, and so on
-abbrev but-c : ℕ → List (List ℕ) → Result Command Misfit
+abbrev pub but-c : ℕ → List (List ℕ) → Result Command Misfit
 but-c l fs = cond (eqb l 65) (made Abort (last-task fs)) (Err no-letter)
 
-abbrev but-w : ℕ → List (List ℕ) → Result Command Misfit
+abbrev pub but-w : ℕ → List (List ℕ) → Result Command Misfit
 but-w l fs = cond (eqb l 67) (made Commit (last-task fs)) (but-c l fs)
 
-abbrev but-r : ℕ → List (List ℕ) → Result Command Misfit
+abbrev pub but-r : ℕ → List (List ℕ) → Result Command Misfit
 but-r l fs = cond (eqb l 87) (write-of fs) (but-w l fs)
 
-abbrev but-b : ℕ → List (List ℕ) → Result Command Misfit
+abbrev pub but-b : ℕ → List (List ℕ) → Result Command Misfit
 but-b l fs = cond (eqb l 82) (read-of fs) (but-r l fs)
 
 -- a letter with its fields that is taken
@@ -170,7 +170,7 @@ lettered-is l fs c e = letter-b (eqb l 66) refl e
     letter-b true q h = is 66 q (by-task Begin 66 fs c (λ t r. r) (λ t. refl) h)
     letter-b false q h = letter-r (eqb l 82) refl h
 
-command-is : (s : List ℕ) (fs : List (List ℕ)) (c : Command) → fields s ≡ fs → command-of fs ≡ Ok c → In-range c × (s ≡ written c)
+pub command-is : (s : List ℕ) (fs : List (List ℕ)) (c : Command) → fields s ≡ fs → command-of fs ≡ Ok c → In-range c × (s ≡ written c)
 command-is s [] c q e = absurd (err-ok e)
 command-is s ([] ∷ fs) c q e = absurd (err-ok e)
 command-is s ((l ∷ []) ∷ fs) c q e =
@@ -182,21 +182,21 @@ command-is s ((l ∷ b ∷ r) ∷ fs) c q e = absurd (err-ok e)
 index-clear : (n : ℕ) → n ≤ highest-index → Clear space (decimal n)
 index-clear n h = decimal-clear n space (omega arith) (omega arith)
 
-index-reads : (n : ℕ) → n ≤ highest-index → number-field highest-index (decimal n) ≡ Some n
+pub index-reads : (n : ℕ) → n ≤ highest-index → number-field highest-index (decimal n) ≡ Some n
 index-reads n h = number-reads highest-index n (omega arith) h
 
-task-fields : (l t : ℕ) → eqb l space ≡ false → t ≤ highest-index → fields (with-task l t) ≡ (l ∷ []) ∷ decimal t ∷ []
+pub task-fields : (l t : ℕ) → eqb l space ≡ false → t ≤ highest-index → fields (with-task l t) ≡ (l ∷ []) ∷ decimal t ∷ []
 task-fields l t q h = rw (q, fields-whole (decimal t) (index-clear t h)) refl
 
 task-more : (l t : ℕ) (s : List ℕ) → eqb l space ≡ false → t ≤ highest-index → fields (with-task l t ++ (space ∷ s)) ≡ (l ∷ []) ∷ decimal t ∷ fields s
 task-more l t s q h = rw (q, fields-before (decimal t) s (index-clear t h)) refl
 
-read-fields : (t v : ℕ) → In-range (Read t v) → fields (written (Read t v)) ≡ (82 ∷ []) ∷ decimal t ∷ decimal v ∷ []
+pub read-fields : (t v : ℕ) → In-range (Read t v) → fields (written (Read t v)) ≡ (82 ∷ []) ∷ decimal t ∷ decimal v ∷ []
 read-fields t v h =
     task-more 82 t (decimal v) refl (h .0)
     ∙ ap (λ (fs : List (List ℕ)). (82 ∷ []) ∷ decimal t ∷ fs) (fields-whole (decimal v) (index-clear v (h .1)))
 
-write-fields : (t v : ℕ) (n : ℤ) → In-range (Write t v n) → fields (written (Write t v n)) ≡ (87 ∷ []) ∷ decimal t ∷ decimal v ∷ signed n ∷ []
+pub write-fields : (t v : ℕ) (n : ℤ) → In-range (Write t v n) → fields (written (Write t v n)) ≡ (87 ∷ []) ∷ decimal t ∷ decimal v ∷ signed n ∷ []
 write-fields t v n h =
     task-more 87 t (decimal v ++ (space ∷ signed n)) refl (h .0)
     ∙ ap (λ (fs : List (List ℕ)). (87 ∷ []) ∷ decimal t ∷ fs)
@@ -204,17 +204,10 @@ write-fields t v n h =
     ∙ ap (λ (fs : List (List ℕ)). decimal v ∷ fs) (fields-whole (signed n) (signed-clear n (h .2))))
 
 -- what is written of a command is read as that command
-reads-back : (c : Command) → In-range c → parsed (written c) ≡ Ok c
+pub reads-back : (c : Command) → In-range c → parsed (written c) ≡ Ok c
 reads-back (Begin t) h = ap command-of (task-fields 66 t refl h) ∙ rw (index-reads t h) refl
 reads-back (Read t v) h = ap command-of (read-fields t v h) ∙ rw (index-reads t (h .0), index-reads v (h .1)) refl
 reads-back (Write t v n) h =
     ap command-of (write-fields t v n h) ∙ rw (index-reads t (h .0), index-reads v (h .1), value-reads n (h .2)) refl
 reads-back (Commit t) h = ap command-of (task-fields 67 t refl h) ∙ rw (index-reads t h) refl
 reads-back (Abort t) h = ap command-of (task-fields 65 t refl h) ∙ rw (index-reads t h) refl
-
--- the law of parsing
-pub taken : (s : List ℕ) (r : Result Command Misfit) → r ≡ parsed s → Taken s r
-taken s r e = record {
-  is-written = λ c q. command-is s (fields s) c refl (sym e ∙ q);
-  reads-back = λ c h q. e ∙ ap parsed q ∙ reads-back c h;
-}

@@ -6,7 +6,7 @@ use lib.ListN.{getD}
 use Rattle.schedule.specs.Pieces.{fields-left}
 use Rattle.schedule.specs.Grammar.{lettered, parsed}
 use Rattle.schedule.proofs.Letters.{parsed-none, parsed-letter, parsed-spaced, parsed-joined}
-use Rattle.schedule.proofs.Writing.{taken}
+use Rattle.schedule.proofs.Parsed.{taken}
 use Rattle.schedule.proofs.parsing.parse.Needs as need
 
 pub returns-in-empty : need.returns-in-empty
