@@ -67,7 +67,7 @@ pub impl<F> From<OverLong> for TextFault<F> as FromOverLong {
     ghost converts = { λ _ r. r ≡ «too-long» };
 
     fn from(_long: OverLong) -> TextFault<F> {
-        TextFault::TooLong
+        Self::TooLong
     }
 }
 
