@@ -176,3 +176,7 @@ no-row n t = rw all-alike (same-both (ltb t tasks) None)
 
 pub none-begun : (n : ℕ) → sets-of (replicate n None) ≡ no-transactions
 none-begun n = same-sets (λ u. ap is-there (no-row n u)) (λ u w. ap (λ o. reads-in o w) (no-row n u)) (λ u w. ap (λ o. writes-in o w) (no-row n u))
+
+-- a row with a transaction is the row of a task, as a test
+pub there-fit : (rows : List (Option Transaction)) (t : ℕ) → is-there (row rows t) ≡ (ltb t tasks && is-there (row rows t))
+there-fit rows t = let n : ltb t tasks ≡ false → is-there (row rows t) ≡ false = λ e. ap is-there (beyond rows t e) in grind arith

@@ -13,6 +13,18 @@ pub record Sets : Type 0 where
   -- its write set
   pub writes : ℕ → ℕ → Bool
 
+-- there is a task t, and it has a transaction
+abbrev pub fit-task : Sets → ℕ → Bool
+fit-task s t = ltb t tasks && s .active t
+
+-- there is a task t, and it has none
+abbrev pub fit-begin : Sets → ℕ → Bool
+fit-begin s t = ltb t tasks && not (s .active t)
+
+-- there are a task t with a transaction and a variable v
+abbrev pub fit-access : Sets → ℕ → ℕ → Bool
+fit-access s t v = ltb t tasks && (ltb v variables && s .active t)
+
 -- no task has a transaction
 abbrev pub no-transactions : Sets
 no-transactions = record { active = λ u. false; reads = λ u w. false; writes = λ u w. false }

@@ -1,9 +1,10 @@
 // The open transaction of each task, with its read set and its write set.
 ghost use mathlib.Core.Path.{_≡_};
 ghost use Rattle.varset.specs.Members.{Holds};
-ghost use Rattle.transactions.specs.Sets.{«no-transactions», begun, ended, «has-read», «has-written»};
+ghost use Rattle.transactions.specs.Sets.{«fit-task», «fit-begin», «fit-access», «no-transactions», begun, ended, «has-read», «has-written»};
 ghost use Rattle.transactions.specs.Rows.{sets, row as «row-of», Puts};
 use varset::VarSet;
+use varset::is_variable;
 
 // How many tasks there are.
 pub const TASKS: usize = 8;
@@ -50,9 +51,14 @@ impl Transactions {
     pub fn begin(&mut self, task: u8)
         ensures { λ _. ⌜ sets (now (self .exit)) ≡ begun task (sets (now (self .entry))) ⌝ }
     {
-        let reads = VarSet::empty();
-        let writes = VarSet::empty();
-        self.put(task, Some(Transaction { reads, writes }));
+        let nothing = VarSet::empty();
+        self.put(
+            task,
+            Some(Transaction {
+                reads: nothing,
+                writes: nothing,
+            }),
+        );
     }
 
     // Ends the transaction of a task.
@@ -84,10 +90,25 @@ impl Transactions {
         }
     }
 
+    // Whether there is such a task, and it has a transaction.
     pub fn is_open(&self, task: u8) -> bool
-        ensures { λ r. ⌜ r ≡ sets (now (self .entry)) .active task ⌝ }
+        ensures { λ r. ⌜ r ≡ «fit-task» (sets (now (self .entry))) task ⌝ }
     {
         self.row(task).is_some()
+    }
+
+    // Whether there is such a task, and it has no transaction.
+    pub fn is_idle(&self, task: u8) -> bool
+        ensures { λ r. ⌜ r ≡ «fit-begin» (sets (now (self .entry))) task ⌝ }
+    {
+        (task as usize) < TASKS && !self.is_open(task)
+    }
+
+    // Whether there are such a task with a transaction and such a variable.
+    pub fn takes(&self, task: u8, variable: u8) -> bool
+        ensures { λ r. ⌜ r ≡ «fit-access» (sets (now (self .entry))) task variable ⌝ }
+    {
+        is_variable(variable) && self.is_open(task)
     }
 
     // The read set of a task, empty where it has no transaction.

@@ -5,5 +5,5 @@ use Rattle.transactions.proofs.Transactions.begin.Needs as need
 pub returns : need.returns
 unfolding sets
 returns c =
-    put-begun (c .args .self .now .rows) (c .put .last .self .rows) (c .args .task) (record { reads = c .empty-reads .result; writes = c .empty-writes .result })
-    (c .put .ensures) (c .empty-reads .ensures) (c .empty-writes .ensures)
+    put-begun (c .args .self .now .rows) (c .put .last .self .rows) (c .args .task) (record { reads = c .empty-nothing .result; writes = c .empty-nothing .result })
+    (c .put .ensures) (c .empty-nothing .ensures) (c .empty-nothing .ensures)
