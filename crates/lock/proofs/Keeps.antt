@@ -1,21 +1,22 @@
 -- A lock policy keeps the rules, move by move.
-use Prim.Native.Nat.{ℕ, _<_}
-use mathlib.Core.Path.{_≡_, refl, sym, _∙_, ap}
-use mathlib.Core.Logic.{_⊎_, inl, inr, _≢_}
+use Prim.Native.Nat.{ℕ}
+use mathlib.Core.Path.{_≡_, refl}
+use mathlib.Core.Logic.{inl, _≢_}
 use mathlib.Core.Bool.{Bool, true, false, not, _&&_, _||_}
 use native.Mathlib.Omega.{arith}
-use lib.Dec.{ltb, eqb}
+use lib.Dec.{eqb}
 use Rattle.std.proofs.shelf.Tests.{ne-eqb, both-ways}
 use Rattle.std.proofs.shelf.Ways.{tells}
-use Rattle.policy.specs.Limits.{tasks, variables}
-use Rattle.policy.specs.Facts.{Facts, Touched, may-read, may-write}
+use Rattle.policy.specs.Facts.{Touched, may-read, may-write}
 use Rattle.policy.specs.Moves.{Move, begin, read, write, read-refused, write-refused, commit, commit-refused, abort}
 use Rattle.policy.specs.Moves.{Keeps, Begun, Has-read, Has-written, Committed, Ended, Unchanged, Beside, Passed, Spared, Same-sets}
 use Rattle.policy.specs.Answers.{fit-task, fit-access, fit-begin}
 use Rattle.transactions.specs.Sets.{Sets, Sound, begun, ended, has-read, has-written}
-use Rattle.transactions.specs.Moved.{due, moved}
+use Rattle.policy.specs.Due.{due}
+use Rattle.transactions.specs.Moved.{moved}
+use Rattle.transactions.proofs.Others.{same-bar, fewer-bars}
 use Rattle.lock.specs.Locks.{locked, Apart, barred, facts-of}
-use Rattle.lock.proofs.Bars.{barred-same, barred-fewer, barred-touched}
+use Rattle.lock.proofs.Bars.{barred-touched}
 
 module _ (s : Sets) (h : Sound s) (a : Apart s) (t : ℕ) where
   -- another task when t begins
@@ -23,7 +24,7 @@ module _ (s : Sets) (h : Sound s) (a : Apart s) (t : ℕ) where
   begin-other n u ne on =
       let d : eqb u t ≡ false = ne-eqb u t ne in
       let bars : (v : ℕ) → barred (begun t s) u v ≡ barred s u v =
-      λ v. barred-same s (begun t s) u v (grind arith)
+      λ v. same-bar (begun t s .active u) (s .active u) (λ x. locked (begun t s) x v) (λ x. locked s x v) u (grind arith)
       (λ x.
       let r = h .no-reads t v n in
       let w = h .no-writes t v n in
@@ -37,7 +38,7 @@ module _ (s : Sets) (h : Sound s) (a : Apart s) (t : ℕ) where
   keeps-begin : fit-begin (facts-of s) t ≡ true → Begun t (facts-of s) (facts-of (begun t s))
   keeps-begin e =
       let touched : (v : ℕ) → barred (begun t s) t v ≡ true → Touched (facts-of s) t v =
-      λ v. barred-touched s (begun t s) h t v (λ x k. grind arith) in
+      λ v. barred-touched s (begun t s) h t v (λ x ne k. grind arith) in
       record {
         was = grind arith;
         active = grind (arith, tells);
@@ -55,7 +56,7 @@ module _ (s : Sets) (h : Sound s) (a : Apart s) (t : ℕ) where
   end-sets u ne = let d = ne-eqb u t ne in record { reads = λ v. grind arith; writes = λ v. grind arith }
 
   end-bars : (u v : ℕ) → s .active u ≡ true → barred (ended t s) u v ≡ true → barred s u v ≡ true
-  end-bars u v on = barred-fewer s (ended t s) u v on (λ x k. grind arith)
+  end-bars u v on = fewer-bars (ended t s .active u) (s .active u) (λ x. locked (ended t s) x v) (λ x. locked s x v) u on (λ x k. grind arith)
 
   end-other : (u : ℕ) → u ≢ t → s .active u ≡ true → Spared (facts-of s) (facts-of (ended t s)) u
   end-other u ne on = record {
@@ -98,13 +99,13 @@ module _ (s : Sets) (h : Sound s) (a : Apart s) (t : ℕ) where
   module _ (r : Sets) (v : ℕ) (same : (u : ℕ) → r .active u ≡ s .active u) (more : (x w : ℕ) → locked s x w ≡ true → locked r x w ≡ true)
       (only : (x w : ℕ) → (eqb x t && eqb w v) ≡ false → locked r x w ≡ locked s x w) where
     access-bars : (w : ℕ) → barred r t w ≡ barred s t w
-    access-bars w = barred-same s r t w (same t) (λ x. let o = only x w in grind arith)
+    access-bars w = same-bar (r .active t) (s .active t) (λ x. locked r x w) (λ x. locked s x w) t (same t) (λ x. let o = only x w in grind arith)
 
     access-kept : (u w : ℕ) → barred s u w ≡ true → barred r u w ≡ true
-    access-kept u w e = barred-fewer r s u w (let k = same u in grind arith) (λ x k. let m = more x w in grind arith) e
+    access-kept u w e = fewer-bars (s .active u) (r .active u) (λ x. locked s x w) (λ x. locked r x w) u (let k = same u in grind arith) (λ x k. let m = more x w in grind arith) e
 
     access-gain : (u w : ℕ) → w ≢ v → barred r u w ≡ barred s u w
-    access-gain u w ne = barred-same s r u w (same u) (λ x. let d = ne-eqb w v ne in let o = only x w in grind arith)
+    access-gain u w ne = same-bar (r .active u) (s .active u) (λ x. locked r x w) (λ x. locked s x w) u (same u) (λ x. let d = ne-eqb w v ne in let o = only x w in grind arith)
 
     access-other : (u : ℕ) → Same-sets (facts-of s) (facts-of r) u → Beside v (facts-of s) (facts-of r) u
     access-other u e = record {

@@ -4,7 +4,8 @@ use mathlib.Core.Bool.{true}
 use Rattle.policy.specs.Facts.{Facts}
 use Rattle.policy.specs.Moves.{Move}
 use Rattle.transactions.specs.Sets.{Sets}
-use Rattle.transactions.specs.Moved.{due, moved}
+use Rattle.policy.specs.Due.{due}
+use Rattle.transactions.specs.Moved.{moved}
 use Rattle.transactions.specs.Rows.{sets}
 use Rattle.lock.specs.Locks.{facts-of}
 use Rattle.lock.specs.declared.Lock.{Lock}

@@ -3,9 +3,8 @@ use Prim.Native.Nat.{ℕ}
 use mathlib.Core.Path.{_≡_}
 use mathlib.Core.Bool.{Bool, true, false, not, _&&_, _||_}
 use lib.Dec.{eqb}
-use Rattle.policy.specs.Limits.{tasks}
-use Rattle.policy.specs.Facts.{Facts, some-below}
-use Rattle.transactions.specs.Sets.{Sets}
+use Rattle.policy.specs.Facts.{Facts}
+use Rattle.transactions.specs.Sets.{Sets, some-other}
 
 -- t has v locked
 abbrev pub locked : Sets → ℕ → ℕ → Bool
@@ -17,7 +16,7 @@ Apart s = (t u v : ℕ) → ((locked s t v && locked s u v) && not (eqb t u)) �
 
 -- a task other than t has v locked
 abbrev pub locked-by-other : Sets → ℕ → ℕ → Bool
-locked-by-other s t v = some-below tasks (λ u. not (eqb u t) && locked s u v)
+locked-by-other s t v = some-other (λ u. locked s u v) t
 
 -- what an open task may neither read nor write
 abbrev pub barred : Sets → ℕ → ℕ → Bool

@@ -4,6 +4,7 @@ use mathlib.Core.Path.{_≡_}
 use mathlib.Core.Bool.{Bool, true, false, not, _&&_, _||_}
 use lib.Dec.{ltb, eqb}
 use Rattle.policy.specs.Limits.{tasks, variables}
+use Rattle.policy.specs.Facts.{some-below}
 
 pub record Sets : Type 0 where
   -- the task has a transaction
@@ -24,6 +25,14 @@ fit-begin s t = ltb t tasks && not (s .active t)
 -- there are a task t with a transaction and a variable v
 abbrev pub fit-access : Sets → ℕ → ℕ → Bool
 fit-access s t v = ltb t tasks && (ltb v variables && s .active t)
+
+-- some task other than t passes the test
+abbrev pub some-other : (ℕ → Bool) → ℕ → Bool
+some-other test t = some-below tasks (λ u. not (eqb u t) && test u)
+
+-- the task `reader` has read something that the task `writer` has written
+abbrev pub conflict : Sets → ℕ → ℕ → Bool
+conflict s reader writer = some-below variables (λ v. s .reads reader v && s .writes writer v)
 
 -- no task has a transaction
 abbrev pub no-transactions : Sets

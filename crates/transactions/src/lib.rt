@@ -1,7 +1,7 @@
 // The open transaction of each task, with its read set and its write set.
 ghost use mathlib.Core.Path.{_≡_};
 ghost use Rattle.varset.specs.Members.{Holds};
-ghost use Rattle.transactions.specs.Sets.{«fit-task», «fit-begin», «fit-access», «no-transactions», begun, ended, «has-read», «has-written»};
+ghost use Rattle.transactions.specs.Sets.{«fit-task», «fit-begin», «fit-access», «no-transactions», begun, ended, «has-read», «has-written», conflict as «conflict-of»};
 ghost use Rattle.transactions.specs.Rows.{sets, row as «row-of», Puts};
 use varset::VarSet;
 use varset::is_variable;
@@ -143,5 +143,12 @@ impl Transactions {
         ensures { λ r. ⌜ r ≡ sets (now (self .entry)) .writes task variable ⌝ }
     {
         self.write_set(task).has(variable)
+    }
+
+    // Whether one task has read something that another has written.
+    pub fn conflict(&self, reader: u8, writer: u8) -> bool
+        ensures { λ r. ⌜ r ≡ «conflict-of» (sets (now (self .entry))) reader writer ⌝ }
+    {
+        self.read_set(reader).meets(self.write_set(writer))
     }
 }
