@@ -23,7 +23,8 @@ barred-touched s r h t v l e = go (other-witness (λ u. locked r u v) t (and-par
           by = w .by;
           other = w .other;
           active = locked-open s h (w .by) v k;
-          touched = or-cases (s .reads (w .by) v) (s .writes (w .by) v) k }
+          touched = or-cases (s .reads (w .by) v) (s .writes (w .by) v) k;
+        }
 
 -- what a task has locked itself, no other has
 pub own-free : (s : Sets) → Apart s → (t v : ℕ) → locked-by-other s t v ≡ true → locked s t v ≡ false
@@ -39,6 +40,7 @@ barred-below s h t v e = go (other-witness (λ u. locked s u v) t (and-parts (s 
     either : (u : ℕ) → (s .reads u v ≡ true) ⊎ (s .writes u v ≡ true) → v < variables
     either u (inl k) = h .read-below u v k
     either u (inr k) = h .written-below u v k
+
     go : Other (λ u. locked s u v) t → v < variables
     go w = either (w .by) (or-cases (s .reads (w .by) v) (s .writes (w .by) v) (w .passes))
 

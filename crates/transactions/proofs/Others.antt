@@ -40,4 +40,4 @@ same-bar on on′ test test′ t a l =
 pub fewer-bars : (on on′ : Bool) (test test′ : ℕ → Bool) (t : ℕ) → on′ ≡ true → Within test test′ t → (on && some-other test t) ≡ true → (on′ && some-other test′ t) ≡ true
 fewer-bars on on′ test test′ t a l e =
     and-from on′ (some-other test′ t) a
-      (some-below-mono tasks (λ u. not (eqb u t) && test u) (λ u. not (eqb u t) && test′ u) (λ u h. l u) (and-parts on (some-other test t) e .1))
+    (some-below-mono tasks (λ u. not (eqb u t) && test u) (λ u. not (eqb u t) && test′ u) (λ u h. l u) (and-parts on (some-other test t) e .1))
