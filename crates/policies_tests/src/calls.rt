@@ -1,22 +1,19 @@
 // The same calls to every policy, with what each answers.
+use crate::answers::Answer;
+use crate::answers::GRANTED;
+use crate::answers::UNFIT;
+use crate::answers::same;
 use eager::Eager;
 use eager::EagerPolicy;
 use lock::Lock;
 use lock::LockPolicy;
 use own::Own;
 use own::OwnPolicy;
-use policy::Granted;
 use policy::GrantedPartialEq;
 use policy::Policy;
 use policy::PolicyFault;
 use policy::PolicyFaultPartialEq;
 use std::test::*;
-
-type Answer = Result<Granted, PolicyFault>;
-
-const GRANTED: Answer = Ok(Granted);
-
-const UNFIT: Answer = Err(PolicyFault::Unfit);
 
 // Task 1 writes what task 0 has read, and commits if it may; then task 0 goes on.
 fn overtaken_reader<P: Policy>(policy: &mut P) -> [Answer; 8] {
@@ -45,19 +42,6 @@ fn overtaken_writer<P: Policy>(policy: &mut P) -> [Answer; 9] {
         policy.write(0, 7),
         policy.commit(0),
     ]
-}
-
-// Whether two lists of answers are the same.
-fn same(a: &[Answer], b: &[Answer]) -> bool {
-    if a.len() != b.len() {
-        return false;
-    }
-    for (x, y) in a.iter().zip(b.iter()) {
-        if x != y {
-            return false;
-        }
-    }
-    true
 }
 
 #[test]
