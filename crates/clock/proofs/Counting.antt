@@ -1,0 +1,66 @@
+-- Counting different numbers keeps their order, for lists of any length.
+use Prim.Native.Nat.{ℕ, suc, _+_, _<_, _≤_}
+use mathlib.Core.Path.{_≡_, refl}
+use mathlib.Core.Logic.{_⊎_, inl, inr}
+use mathlib.Core.Bool.{Bool, true, false, not, cond, _&&_, _||_}
+use mathlib.Core.List.{List, [], _∷_}
+use native.Mathlib.Omega.{arith}
+use lib.Dec.{ltb, eqb}
+use lib.ListN.{length}
+use Rattle.std.proofs.shelf.Tests.{cases-bool, cases-lt, eqb-true, or-cases, both-ways, lt-ltb, le-ltb}
+use Rattle.std.proofs.shelf.Ways.{tells}
+use Rattle.clock.specs.Different.{among, different, different-below}
+
+-- a higher bound counts no fewer
+pub below-mono : (ns : List ℕ) (x y : ℕ) → x ≤ y → different-below ns x ≤ different-below ns y
+unfolding different-below
+below-mono [] x y h = omega arith
+below-mono (n ∷ ns) x y h =
+    let r : different-below ns x ≤ different-below ns y = below-mono ns x y h in
+    grind (arith, tells)
+
+-- a bound above a number of the list counts more than that number as a bound
+pub below-strict : (ns : List ℕ) (a x : ℕ) → among ns a ≡ true → a < x → different-below ns a < different-below ns x
+unfolding different-below among
+below-strict [] a x e h = grind (arith, tells)
+below-strict (n ∷ ns) a x e h =
+    let m : different-below ns a ≤ different-below ns x = below-mono ns a x (omega arith) in
+    elim (cases-bool (among ns a))
+    [ inl k ↦ let r : different-below ns a < different-below ns x = below-strict ns a x k h in grind (arith, tells)
+    | inr k ↦ let i : n ≡ a = grind (arith, tells) in grind (arith, tells)
+    ]
+
+-- so a number of the list and any other number stay in order
+pub below-order : (ns : List ℕ) (a x : ℕ) → among ns a ≡ true → ltb (different-below ns a) (different-below ns x) ≡ ltb a x
+below-order ns a x e =
+    elim (cases-lt a x)
+    [ inl h ↦ let r : different-below ns a < different-below ns x = below-strict ns a x e h in grind (arith, tells)
+    | inr h ↦ let r : different-below ns x ≤ different-below ns a = below-mono ns x a h in grind (arith, tells)
+    ]
+
+-- nothing is below zero
+pub below-zero : (ns : List ℕ) → different-below ns 0 ≡ 0
+unfolding different-below
+below-zero [] = refl
+below-zero (n ∷ ns) = let r : different-below ns 0 ≡ 0 = below-zero ns in grind (arith, tells)
+
+-- there are no more below a bound than in all
+pub below-all : (ns : List ℕ) (x : ℕ) → different-below ns x ≤ different ns
+unfolding different-below different
+below-all [] x = omega arith
+below-all (n ∷ ns) x = let r : different-below ns x ≤ different ns = below-all ns x in grind (arith, tells)
+
+-- a bound above every number of the list counts all of them
+pub below-bound : (ns : List ℕ) (x : ℕ) → ((a : ℕ) → among ns a ≡ true → a < x) → different-below ns x ≡ different ns
+unfolding different-below different among
+below-bound [] x h = refl
+below-bound (n ∷ ns) x h =
+    let r : different-below ns x ≡ different ns = below-bound ns x (λ a e. h a (grind (arith, tells))) in
+    let k : n < x = h n (grind (arith, tells)) in
+    grind (arith, tells)
+
+-- there are no more different numbers than numbers
+pub different-le : (ns : List ℕ) → different ns ≤ length ns
+unfolding different
+different-le [] = omega arith
+different-le (n ∷ ns) = let r : different ns ≤ length ns = different-le ns in grind (arith, tells)

@@ -1,0 +1,4 @@
+pub mod Counting
+pub mod ReadVersions
+pub mod Renumbering
+pub mod Putting

@@ -1,0 +1,4 @@
+pub mod Different
+pub mod Held
+pub mod Steps
+pub mod Due
