@@ -48,7 +48,8 @@ module _ (t : ℕ) (x : Option Running) (s : Held) where
           }
       }
 
-  beside : (v u : ℕ) → u ≢ t → Beside v (meaning s) (meaning (put t x s)) u
+  -- another task after an access to v
+  pub beside : (v u : ℕ) → u ≢ t → Beside v (meaning s) (meaning (put t x s)) u
   beside v u h =
       let e : Unchanged (meaning s) (meaning (put t x s)) u = put-unchanged u h in
       record
