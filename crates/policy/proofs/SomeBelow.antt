@@ -47,6 +47,7 @@ some-below-empty n s a = go (cases-bool (some-below n s))
   where
     none : (v : ℕ) × (v < n) × (s v ≡ true) → ⊥
     none w = both-ways (s (w .0)) (a (w .0) (w .1)) (w .2)
+
     go : (some-below n s ≡ true) ⊎ (some-below n s ≡ false) → some-below n s ≡ false
     go (inl k) = absurd (none (some-below-witness n s k))
     go (inr k) = k

@@ -1,0 +1,3 @@
+mod Bits
+mod Masks
+pub mod Below
