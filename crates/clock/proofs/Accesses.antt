@@ -14,8 +14,9 @@ use Rattle.policy.specs.Limits.{variables}
 use Rattle.policy.specs.Facts.{some-below, may-read, may-write}
 use Rattle.policy.specs.Moves.{Has-read, Has-written}
 use Rattle.policy.proofs.SomeBelow.{some-below-same}
+use Rattle.varset.specs.Members.{plus}
 use Rattle.clock.specs.Held.{Held, Running, meaning, newer, reads-of, writes-of}
-use Rattle.clock.specs.Steps.{put, with-read, with-write, plus}
+use Rattle.clock.specs.Steps.{put, with-read, with-write}
 use Rattle.clock.proofs.Putting.{put-same, put-only, put-unchanged, beside}
 
 module _ (set : ℕ → Bool) (v : ℕ) where

@@ -5,3 +5,4 @@ pub mod Putting
 pub mod Accesses
 pub mod Publishing
 pub mod Keeping
+pub mod Reading

@@ -16,7 +16,7 @@ use Rattle.policy.specs.Moves.{Only, Others, Unchanged, Begun, Has-read, Has-wr
 use Rattle.policy.specs.Answers.{fit-access}
 use Rattle.policy.proofs.SomeBelow.{some-below-same, some-below-empty}
 use Rattle.clock.specs.Held.{Held, Running, Sound, meaning, newer, reads-of, writes-of, stale}
-use Rattle.clock.specs.Steps.{put, begun, with-read, with-write, plus}
+use Rattle.clock.specs.Steps.{put, begun, with-read, with-write}
 
 module _ (t : ℕ) (x : Option Running) (s : Held) where
   pub put-same : put t x s .transaction t ≡ x

@@ -2,3 +2,5 @@ pub mod Different
 pub mod Held
 pub mod Steps
 pub mod Due
+pub mod Rows
+pub mod Clocks

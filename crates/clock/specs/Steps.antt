@@ -1,13 +1,14 @@
 -- What a clock policy holds after each call: a function of what it held before.
 use Prim.Native.Nat.{ℕ, zero, suc, _+_}
-use mathlib.Core.Bool.{Bool, true, false, cond, _||_, _&&_}
+use mathlib.Core.Bool.{Bool, cond}
 use mathlib.Core.List.{List, [], _∷_}
-use lib.Dec.{eqb, ltb}
+use lib.Dec.{eqb}
 use Rattle.std.specs.declared.option.Option.{Option}
 use Rattle.std.specs.declared.option.Option.the-variants.{Some, None}
 use Rattle.policy.specs.Limits.{tasks, variables}
 use Rattle.policy.specs.Facts.{some-below}
 use Rattle.policy.specs.Moves.{Move, begin, read, write, read-refused, write-refused, commit, commit-refused, abort}
+use Rattle.varset.specs.Members.{nothing, plus}
 use Rattle.clock.specs.Different.{different, different-below}
 use Rattle.clock.specs.Held.{Held, Running, writes-of}
 
@@ -22,28 +23,28 @@ put t x s =
 
 -- a transaction that begins now
 abbrev pub begun : ℕ → Running
-begun clock = record { read-version = clock; reads = λ v. false; writes = λ v. false }
-
--- the set and v, if there is such a variable
-abbrev pub plus : (ℕ → Bool) → ℕ → ℕ → Bool
-plus set v w = set w || (eqb w v && ltb v variables)
+begun clock = record { read-version = clock; reads = nothing; writes = nothing }
 
 -- a read of v enters the read set unless v was written before
-abbrev pub with-read : ℕ → Option Running → Option Running
-with-read v None = None
-with-read v (Some x) =
-    Some
-    (record
+abbrev pub and-read : ℕ → Running → Running
+and-read v x =
+    record
     { read-version = x .read-version
     ; reads = cond (x .writes v) (x .reads) (plus (x .reads) v)
     ; writes = x .writes
-    })
+    }
+
+abbrev pub with-read : ℕ → Option Running → Option Running
+with-read v None = None
+with-read v (Some x) = Some (and-read v x)
 
 -- a write of v enters the write set
+abbrev pub and-write : ℕ → Running → Running
+and-write v x = record { read-version = x .read-version; reads = x .reads; writes = plus (x .writes) v }
+
 abbrev pub with-write : ℕ → Option Running → Option Running
 with-write v None = None
-with-write v (Some x) =
-    Some (record { read-version = x .read-version; reads = x .reads; writes = plus (x .writes) v })
+with-write v (Some x) = Some (and-write v x)
 
 -- the read version of a task with the ones before it
 abbrev pub and-read-version : Option Running → List ℕ → List ℕ
@@ -98,3 +99,7 @@ next (write-refused t v) s = put t None s
 next (commit t) s = put t None (published (writes-of (s .transaction t)) s)
 next (commit-refused t) s = put t None s
 next (abort t) s = put t None s
+
+-- what a new policy holds: its clock, and nothing else
+abbrev pub start : ℕ → Held
+start clock = record { clock = clock; version = λ v. 0; transaction = λ t. None }
