@@ -64,3 +64,20 @@ pub different-le : (ns : List ℕ) → different ns ≤ length ns
 unfolding different
 different-le [] = omega arith
 different-le (n ∷ ns) = let r : different ns ≤ length ns = different-le ns in grind (arith, tells)
+
+-- one more number is counted if it is below the bound and new
+pub below-new : (n : ℕ) (ns : List ℕ) (x : ℕ) → n < x → among ns n ≡ false → different-below (n ∷ ns) x ≡ different-below ns x + 1
+unfolding different-below
+below-new n ns x h e = grind (arith, tells)
+
+pub below-known : (n : ℕ) (ns : List ℕ) (x : ℕ) → among ns n ≡ true → different-below (n ∷ ns) x ≡ different-below ns x
+unfolding different-below
+below-known n ns x e = grind (arith, tells)
+
+pub below-above : (n : ℕ) (ns : List ℕ) (x : ℕ) → x ≤ n → different-below (n ∷ ns) x ≡ different-below ns x
+unfolding different-below
+below-above n ns x h = grind (arith, tells)
+
+pub below-none : (x : ℕ) → different-below [] x ≡ 0
+unfolding different-below
+below-none x = refl

@@ -1,6 +1,6 @@
 pub mod Counting
 pub mod ReadVersions
-pub mod Renumbering
+pub mod Renumbered
 pub mod Putting
 pub mod Accesses
 pub mod Publishing

@@ -16,7 +16,7 @@ use Rattle.policy.specs.Moves.{Same-sets, Fenced, Near, Passed, Committed, Unch
 use Rattle.policy.proofs.SomeBelow.{some-below-same, some-below-member, some-below-witness, some-below-mono, some-below-all}
 use Rattle.clock.specs.Held.{Held, Running, Sound, meaning, newer, reads-of, writes-of, stale}
 use Rattle.clock.specs.Steps.{put, stamped, published, with-room}
-use Rattle.clock.proofs.Renumbering.{with-room-meaning, with-room-sound}
+use Rattle.clock.proofs.Renumbered.{with-room-meaning, with-room-sound}
 use Rattle.clock.proofs.Putting.{put-same, put-only, put-unchanged}
 
 -- from f to g the no-read set of every transaction gains what is in the set, and no other fact changes

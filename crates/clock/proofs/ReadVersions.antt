@@ -1,19 +1,32 @@
 -- The list of the read versions, for any number of tasks.
 use Prim.Native.Nat.{ℕ, zero, suc, _+_, _<_, _≤_}
-use mathlib.Core.Path.{_≡_, refl, sym, subst, ap}
+use mathlib.Core.Path.{_≡_, refl, sym, subst, ap, _∙_}
 use mathlib.Core.Logic.{_⊎_, inl, inr}
 use mathlib.Core.Bool.{Bool, true, false, not, cond, _&&_, _||_}
 use mathlib.Core.List.{List, [], _∷_}
 use native.Mathlib.Omega.{arith}
 use lib.Dec.{ltb, eqb}
-use lib.ListN.{length}
+use native.Mathlib.Numerals.{add-one}
+use lib.ListN.{length, getD}
 use Rattle.std.specs.declared.option.Option.{Option}
 use Rattle.std.specs.declared.option.Option.the-variants.{Some, None}
-use Rattle.std.proofs.shelf.Tests.{cases-bool, cases-eq, or-cases, eqb-true, or-left, or-right, eq-eqb}
+use Rattle.std.proofs.shelf.Tests.{cases-eq, or-cases, eqb-true, or-left, or-right, eq-eqb, cond-true, lt-ltb}
 use Rattle.std.proofs.shelf.Ways.{tells}
+use Rattle.policy.specs.Limits.{tasks}
+use Rattle.clock.specs.declared.transaction.Transaction.{Transaction}
 use Rattle.clock.specs.Different.{among}
+use Rattle.clock.specs.Rows.{row, rows}
 use Rattle.clock.specs.Held.{Running}
 use Rattle.clock.specs.Steps.{read-versions, and-read-version}
+
+-- what isn't some transaction is none
+pub none-left : (o : Option Transaction) → ((x : Transaction) → o ≡ Some x → ⊥) → o ≡ None
+none-left None h = refl
+none-left (Some x) h = absurd (h x refl)
+
+-- the transaction of a task that there is
+pub row-at : (ts : List (Option Transaction)) (t : ℕ) → t < tasks → rows ts t ≡ row (getD ts t None)
+row-at ts t h = cond-true (ltb t tasks) (row (getD ts t None)) None (lt-ltb t tasks h)
 
 -- one more task
 pub read-versions-more : (n : ℕ) (ts : ℕ → Option Running) → read-versions (suc n) ts ≡ and-read-version (ts n) (read-versions n ts)
@@ -74,3 +87,23 @@ unfolding read-versions among
 read-versions-below zero ts b h a e = grind arith
 read-versions-below (suc n) ts b h a e =
     below-first (ts n) (read-versions n ts) a b (h n) (read-versions-below n ts b h a) e
+
+-- the tasks of an array, one more of them
+pub read-versions-next : (ts : List (Option Transaction)) (t : ℕ) → t < tasks
+    → read-versions (t + 1) (rows ts) ≡ and-read-version (row (getD ts t None)) (read-versions t (rows ts))
+read-versions-next ts t h =
+    rw add-one (rw read-versions-more (ap (λ (o : Option Running). and-read-version o (read-versions t (rows ts))) (row-at ts t h)))
+
+-- what one more task of an array adds, by its row
+module _ (ts : List (Option Transaction)) (t : ℕ) (there : t < tasks) where
+  pub read-versions-idle : ((x : Transaction) → getD ts t None ≡ Some x → ⊥)
+      → read-versions (t + 1) (rows ts) ≡ read-versions t (rows ts)
+  read-versions-idle h =
+      read-versions-next ts t there
+      ∙ ap (λ (o : Option Transaction). and-read-version (row o) (read-versions t (rows ts))) (none-left (getD ts t None) h)
+
+  pub read-versions-begun : (x : Transaction) → getD ts t None ≡ Some x
+      → read-versions (t + 1) (rows ts) ≡ x .«read_version» ∷ read-versions t (rows ts)
+  read-versions-begun x e =
+      read-versions-next ts t there
+      ∙ ap (λ (o : Option Transaction). and-read-version (row o) (read-versions t (rows ts))) e
