@@ -6,3 +6,4 @@ pub mod Accesses
 pub mod Publishing
 pub mod Keeping
 pub mod Reading
+pub mod Rewriting

@@ -1,9 +1,12 @@
 // Smaller numbers in the same order: how many different read versions there are below each.
 ghost use mathlib.Core.Path.{_≡_};
-ghost use Prim.Native.Nat.{ℕ, _≤_};
+ghost use Prim.Native.Nat.{ℕ, _<_, _≤_};
+ghost use lib.ListN.{getD};
+ghost use mathlib.Core.List.{map};
 ghost use Rattle.clock.specs.Different.{among, «different-below»};
-ghost use Rattle.clock.specs.Steps.{«read-versions»};
-ghost use Rattle.clock.specs.Rows.{rows};
+ghost use Rattle.clock.specs.Steps.{«read-versions», «at-version»};
+ghost use Rattle.clock.specs.Rows.{row, rows};
+ghost use Rattle.std.specs.declared.option.Option.the-variants.{None as nobody};
 ghost use Rattle.policy.specs.Limits.{tasks};
 use crate::state::TASKS;
 use crate::state::VARIABLES;
@@ -25,7 +28,7 @@ fn is_read_version(transactions: &[Option<Transaction>; TASKS], count: usize, nu
 }
 
 // How many different read versions there are below the bound.
-fn different_below(transactions: &[Option<Transaction>; TASKS], bound: u64) -> u32
+pub(crate) fn different_below(transactions: &[Option<Transaction>; TASKS], bound: u64) -> u32
     ensures { λ r. ⌜ r ≡ «different-below» («read-versions» tasks (rows (now (transactions .entry)))) bound ⌝ }
 {
     let mut different = 0;
@@ -37,4 +40,26 @@ fn different_below(transactions: &[Option<Transaction>; TASKS], bound: u64) -> u
         }
     }
     different
+}
+
+pub(crate) fn renumber_versions(versions: &mut [u32; VARIABLES], transactions: &[Option<Transaction>; TASKS])
+    ensures { λ _. ⌜ now (versions .exit) ≡ map («different-below» («read-versions» tasks (rows (now (transactions .entry))))) (now (versions .entry)) ⌝ }
+{
+    for version in versions.iter_mut() {
+        *version = different_below(transactions, u64::from(*version));
+    }
+}
+
+// The transactions under their new read versions.
+pub(crate) fn renumbered(transactions: [Option<Transaction>; TASKS]) -> [Option<Transaction>; TASKS]
+    ensures { λ r. ⌜ ((t : ℕ) → t < tasks → row (getD r t nobody) ≡ «at-version» («different-below» («read-versions» tasks (rows transactions))) (row (getD transactions t nobody))) ⌝ }
+{
+    let mut renumbered = transactions;
+    for t in 0..TASKS {
+        if let Some(x) = transactions[t] {
+            let read_version = different_below(&transactions, u64::from(x.read_version));
+            renumbered[t] = Some(Transaction { read_version, ..x });
+        }
+    }
+    renumbered
 }
