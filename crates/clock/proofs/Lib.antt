@@ -7,3 +7,6 @@ pub mod Publishing
 pub mod Keeping
 pub mod Reading
 pub mod Rewriting
+pub mod Soundness
+pub mod Arrays
+pub mod Policies

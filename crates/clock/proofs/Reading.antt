@@ -8,7 +8,7 @@ use lib.Dec.{ltb, eqb}
 use lib.ListN.{getD, length, set, replicate}
 use Rattle.std.specs.declared.option.Option.{Option}
 use Rattle.std.specs.declared.option.Option.the-variants.{Some, None}
-use Rattle.std.proofs.shelf.Tests.{cond-both, ltb-true, ltb-false}
+use Rattle.std.proofs.shelf.Tests.{cond-both, cond-true, lt-ltb, ltb-true, ltb-false}
 use Rattle.policy.specs.Limits.{tasks, variables}
 use Rattle.clock.specs.declared.transaction.Transaction.{Transaction}
 use Rattle.clock.specs.Held.{Held, Running}
@@ -39,3 +39,15 @@ pub rows-from : (ts : List (Option Transaction)) (f : ℕ → Option Running)
 rows-from ts f inside outside t =
     cond-both (ltb t tasks) (row (getD ts t None)) None (λ (o : Option Running). o ≡ f t)
     (λ e. inside t (ltb-true t tasks e)) (λ e. sym (outside t (ltb-false t tasks e)))
+
+-- what holds of the value written and of the value that was there holds of the one that is there
+pub getD-set-either : {X : Type 0} (P : X → Type 0) (xs : List X) (i : ℕ) (y : X) (j : ℕ) (d : X) → P y → P (getD xs j d) → P (getD (set xs i y) j d)
+getD-set-either P [] i y j d h k = k
+getD-set-either P (x ∷ xs) zero y zero d h k = h
+getD-set-either P (x ∷ xs) zero y (suc j) d h k = k
+getD-set-either P (x ∷ xs) (suc i) y zero d h k = k
+getD-set-either P (x ∷ xs) (suc i) y (suc j) d h k = getD-set-either P xs i y j d h k
+
+-- the version of a variable that there is
+pub number-at : (ns : List ℕ) (v : ℕ) → v < variables → numbers ns v ≡ getD ns v 0
+number-at ns v h = cond-true (ltb v variables) (getD ns v 0) 0 (lt-ltb v variables h)

@@ -41,9 +41,13 @@ abbrev pub newer : Option Running → ℕ → Bool
 newer None n = false
 newer (Some x) n = ltb (x .read-version) n
 
--- v was read, and written since
+-- task t has read v, and v was written since
 abbrev pub stale : Held → ℕ → ℕ → Bool
 stale s t v = reads-of (s .transaction t) v && newer (s .transaction t) (s .version v)
+
+-- the same of one transaction
+abbrev pub stale-for : Running → (ℕ → ℕ) → ℕ → Bool
+stale-for x version v = x .reads v && ltb (x .read-version) (version v)
 
 -- the six facts
 abbrev pub meaning : Held → Facts

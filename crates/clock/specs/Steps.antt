@@ -1,5 +1,6 @@
 -- What a clock policy holds after each call: a function of what it held before.
 use Prim.Native.Nat.{ℕ, zero, suc, _+_}
+use mathlib.Core.Path.{_≡_}
 use mathlib.Core.Bool.{Bool, cond}
 use mathlib.Core.List.{List, [], _∷_}
 use lib.Dec.{eqb}
@@ -10,7 +11,7 @@ use Rattle.policy.specs.Facts.{some-below}
 use Rattle.policy.specs.Moves.{Move, begin, read, write, read-refused, write-refused, commit, commit-refused, abort}
 use Rattle.varset.specs.Members.{nothing, plus}
 use Rattle.clock.specs.Different.{different, different-below}
-use Rattle.clock.specs.Held.{Held, Running, writes-of}
+use Rattle.clock.specs.Held.{Held, Running, writes-of, meaning}
 
 -- the highest clock there is
 abbrev pub top : ℕ
@@ -71,6 +72,10 @@ renumbered s =
     ; version = λ v. different-below versions (s .version v)
     ; transaction = λ t. at-version (different-below versions) (s .transaction t)
     }
+
+-- what is held means the same before and after
+abbrev pub No-fact-changed : Held → Held → Type 0
+No-fact-changed before after = meaning after ≡ meaning before
 
 -- what is held once the clock can rise
 abbrev pub with-room : Held → Held

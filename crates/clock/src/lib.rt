@@ -2,6 +2,7 @@
 ghost use mathlib.Core.Path.{_≡_};
 ghost use Rattle.clock.specs.Clocks.{held};
 ghost use Rattle.clock.specs.Steps.{start as «new-at»};
+mod changes;
 mod renumbering;
 mod state;
 mod transaction;

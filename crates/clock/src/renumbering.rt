@@ -50,16 +50,14 @@ pub(crate) fn renumber_versions(versions: &mut [u32; VARIABLES], transactions: &
     }
 }
 
-// The transactions under their new read versions.
-pub(crate) fn renumbered(transactions: [Option<Transaction>; TASKS]) -> [Option<Transaction>; TASKS]
-    ensures { λ r. ⌜ ((t : ℕ) → t < tasks → row (getD r t nobody) ≡ «at-version» («different-below» («read-versions» tasks (rows transactions))) (row (getD transactions t nobody))) ⌝ }
+pub(crate) fn renumber_transactions(transactions: &mut [Option<Transaction>; TASKS])
+    ensures { λ _. ⌜ ((t : ℕ) → t < tasks → row (getD (now (transactions .exit)) t nobody) ≡ «at-version» («different-below» («read-versions» tasks (rows (now (transactions .entry))))) (row (getD (now (transactions .entry)) t nobody))) ⌝ }
 {
-    let mut renumbered = transactions;
+    let before = *transactions;
     for t in 0..TASKS {
-        if let Some(x) = transactions[t] {
-            let read_version = different_below(&transactions, u64::from(x.read_version));
-            renumbered[t] = Some(Transaction { read_version, ..x });
+        if let Some(x) = before[t] {
+            let read_version = different_below(&before, u64::from(x.read_version));
+            transactions[t] = Some(Transaction { read_version, ..x });
         }
     }
-    renumbered
 }

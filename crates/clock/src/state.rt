@@ -13,6 +13,7 @@ pub const TASKS: usize = 8;
 pub const VARIABLES: usize = 64;
 
 // TL2. No version and no read version is above the clock.
+#[derive(Drop)]
 pub struct Clock {
     pub(crate) clock: u32,
     pub(crate) versions: [u32; VARIABLES],
