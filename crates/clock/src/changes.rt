@@ -20,7 +20,7 @@ use crate::transaction::Transaction;
 use varset::VarSet;
 
 // Whether the transaction has read something that was written since it began.
-fn is_stale(versions: &[u32; VARIABLES], x: Transaction) -> bool
+pub(crate) fn is_stale(versions: &[u32; VARIABLES], x: Transaction) -> bool
     ensures { λ r. ⌜ r ≡ «some-below» variables («stale-for» (running x) (numbers (now (versions .entry)))) ⌝ }
 {
     for v in 0..VARIABLES as u8 {

@@ -2,12 +2,14 @@
 ghost use mathlib.Core.Path.{_≡_};
 ghost use Rattle.clock.specs.Clocks.{held};
 ghost use Rattle.clock.specs.Steps.{start as «new-at»};
+mod calls;
 mod changes;
 mod renumbering;
 mod state;
 mod transaction;
 use state::TASKS;
 use state::VARIABLES;
+pub use calls::ClockPolicy;
 pub use state::Clock;
 
 impl Clock {
