@@ -16,7 +16,7 @@ use Rattle.policy.specs.Moves.{Has-read, Has-written}
 use Rattle.policy.proofs.SomeBelow.{some-below-same}
 use Rattle.varset.specs.Members.{plus}
 use Rattle.clock.specs.Held.{Held, Running, meaning, newer, reads-of, writes-of}
-use Rattle.clock.specs.Steps.{put, with-read, with-write}
+use Rattle.clock.specs.Steps.{with-transaction, with-read, with-write}
 use Rattle.clock.proofs.Putting.{put-same, put-only, put-unchanged, beside}
 
 module _ (set : ℕ → Bool) (v : ℕ) where
@@ -29,9 +29,9 @@ module _ (set : ℕ → Bool) (v : ℕ) where
   -- a set that gains v where a test fails at v gains nothing of the test
   plus-outside : (test : ℕ → Bool) → test v ≡ false → (w : ℕ) → (plus set v w && test w) ≡ (set w && test w)
   plus-outside test h w =
-      elim (cases-eq w v)
-      [ inl e ↦ let k : test w ≡ false = ap test e ∙ h in grind (arith, tells)
-      | inr e ↦ let k : plus set v w ≡ set w = plus-other w e in cc
+      elim (cases-eq w v) [
+        | inl e ↦ let k : test w ≡ false = ap test e ∙ h in grind (arith, tells)
+        | inr e ↦ let k : plus set v w ≡ set w = plus-other w e in cc
       ]
 
 module _ (v : ℕ) where
@@ -68,10 +68,10 @@ module _ (v : ℕ) where
   read-stale (Some x) version e w =
       (elim (x .writes v) as
       (λ b. (b || not (ltb (x .read-version) (version v))) ≡ true
-          → (cond b (x .reads) (plus (x .reads) v) w && ltb (x .read-version) (version w))
-              ≡ (x .reads w && ltb (x .read-version) (version w)))
-      [ true ↦ λ _. refl
-      | false ↦ λ k. plus-outside (x .reads) v (λ u. ltb (x .read-version) (version u)) (grind (arith, tells)) w
+      → (cond b (x .reads) (plus (x .reads) v) w && ltb (x .read-version) (version w))
+      ≡ (x .reads w && ltb (x .read-version) (version w))) [
+        | true ↦ λ _. refl
+        | false ↦ λ k. plus-outside (x .reads) v (λ u. ltb (x .read-version) (version u)) (grind (arith, tells)) w
       ])
       e
 
@@ -96,53 +96,53 @@ module _ (v : ℕ) where
   write-other (Some x) w h = plus-other (x .writes) v w h
 
 module _ (t v : ℕ) (s : Held) (there : v < variables) (open′ : isSome (s .transaction t) ≡ true) where
-  pub has-read : may-read (meaning s) t v ≡ true → Has-read t v (meaning s) (meaning (put t (with-read v (s .transaction t)) s))
+  pub has-read : may-read (meaning s) t v ≡ true → Has-read t v (meaning s) (meaning (with-transaction t (with-read v (s .transaction t)) s))
   has-read may =
       let o : Option Running = s .transaction t in
       let x : Option Running = with-read v o in
-      let e : put t x s .transaction t ≡ x = put-same t x s in
-      record
-      { was = open′
-      ; granted = may
-      ; active = ap isSome e ∙ read-active v o ∙ open′
-      ; behind =
-          ap (λ (p : Option Running). some-below variables (λ w. reads-of p w && newer p (s .version w))) e
-          ∙ some-below-same variables (λ w. reads-of x w && newer x (s .version w))
-          (λ w. reads-of o w && newer o (s .version w)) (λ w _. read-stale v o (s .version) may w)
-      ; own = λ k. ap (λ (p : Option Running). reads-of p v) e ∙ read-own v o k
-      ; shared = λ k. ap (λ (p : Option Running). reads-of p v) e ∙ read-shared v o there open′ k
-      ; reads = λ w k. ap (λ (p : Option Running). reads-of p w) e ∙ read-other v o w k
-      ; writes = λ w. ap (λ (p : Option Running). writes-of p w) e ∙ read-writes v o w
-      ; bars =
-          record
-          { no-read = λ w. ap (λ (p : Option Running). newer p (s .version w)) e ∙ read-newer v o (s .version w)
-          ; no-write = λ w. refl
-          }
-      ; only = put-only t x s
-      ; others = λ u h k. beside t x s v u h
+      let e : with-transaction t x s .transaction t ≡ x = put-same t x s in
+      record {
+        was = open′;
+        granted = may;
+        active = ap isSome e ∙ read-active v o ∙ open′;
+        behind =
+            ap (λ (p : Option Running). some-below variables (λ w. reads-of p w && newer p (s .version w))) e
+            ∙ some-below-same variables (λ w. reads-of x w && newer x (s .version w))
+            (λ w. reads-of o w && newer o (s .version w)) (λ w _. read-stale v o (s .version) may w);
+        own = λ k. ap (λ (p : Option Running). reads-of p v) e ∙ read-own v o k;
+        shared = λ k. ap (λ (p : Option Running). reads-of p v) e ∙ read-shared v o there open′ k;
+        reads = λ w k. ap (λ (p : Option Running). reads-of p w) e ∙ read-other v o w k;
+        writes = λ w. ap (λ (p : Option Running). writes-of p w) e ∙ read-writes v o w;
+        bars =
+            record {
+              no-read = λ w. ap (λ (p : Option Running). newer p (s .version w)) e ∙ read-newer v o (s .version w);
+              no-write = λ w. refl;
+            };
+        only = put-only t x s;
+        others = λ u h k. beside t x s v u h;
       }
 
-  pub has-written : Has-written t v (meaning s) (meaning (put t (with-write v (s .transaction t)) s))
+  pub has-written : Has-written t v (meaning s) (meaning (with-transaction t (with-write v (s .transaction t)) s))
   has-written =
       let o : Option Running = s .transaction t in
       let x : Option Running = with-write v o in
-      let e : put t x s .transaction t ≡ x = put-same t x s in
-      record
-      { was = open′
-      ; granted = refl
-      ; active = ap isSome e ∙ write-active v o ∙ open′
-      ; behind =
-          ap (λ (p : Option Running). some-below variables (λ w. reads-of p w && newer p (s .version w))) e
-          ∙ some-below-same variables (λ w. reads-of x w && newer x (s .version w))
-          (λ w. reads-of o w && newer o (s .version w)) (λ w _. ap₂ _&&_ (write-reads v o w) (write-newer v o (s .version w)))
-      ; reads = λ w. ap (λ (p : Option Running). reads-of p w) e ∙ write-reads v o w
-      ; written = ap (λ (p : Option Running). writes-of p v) e ∙ write-written v o there open′
-      ; writes = λ w k. ap (λ (p : Option Running). writes-of p w) e ∙ write-other v o w k
-      ; bars =
-          record
-          { no-read = λ w. ap (λ (p : Option Running). newer p (s .version w)) e ∙ write-newer v o (s .version w)
-          ; no-write = λ w. refl
-          }
-      ; only = put-only t x s
-      ; others = λ u h k. beside t x s v u h
+      let e : with-transaction t x s .transaction t ≡ x = put-same t x s in
+      record {
+        was = open′;
+        granted = refl;
+        active = ap isSome e ∙ write-active v o ∙ open′;
+        behind =
+            ap (λ (p : Option Running). some-below variables (λ w. reads-of p w && newer p (s .version w))) e
+            ∙ some-below-same variables (λ w. reads-of x w && newer x (s .version w))
+            (λ w. reads-of o w && newer o (s .version w)) (λ w _. ap₂ _&&_ (write-reads v o w) (write-newer v o (s .version w)));
+        reads = λ w. ap (λ (p : Option Running). reads-of p w) e ∙ write-reads v o w;
+        written = ap (λ (p : Option Running). writes-of p v) e ∙ write-written v o there open′;
+        writes = λ w k. ap (λ (p : Option Running). writes-of p w) e ∙ write-other v o w k;
+        bars =
+            record {
+              no-read = λ w. ap (λ (p : Option Running). newer p (s .version w)) e ∙ write-newer v o (s .version w);
+              no-write = λ w. refl;
+            };
+        only = put-only t x s;
+        others = λ u h k. beside t x s v u h;
       }

@@ -44,7 +44,7 @@ module _ (clock : ℕ) (ns : List ℕ) (ts : List (Option Transaction)) (sound :
       → clock′ ≡ different-below (read-versions tasks (rows ts)) (clock + 1)
       → ns′ ≡ map (different-below (read-versions tasks (rows ts))) ns
       → ((t : ℕ) → t < tasks
-          → row (getD ts′ t None) ≡ at-version (different-below (read-versions tasks (rows ts))) (row (getD ts t None)))
+      → row (getD ts′ t None) ≡ at-version (different-below (read-versions tasks (rows ts))) (row (getD ts t None)))
       → holding clock′ ns′ ts′ ≡ renumbered (holding clock ns ts)
   renumbered-arrays clock′ ns′ ts′ c n r =
       let versions : List ℕ = read-versions tasks (rows ts) in
@@ -74,14 +74,14 @@ module _ (clock : ℕ) (ns : List ℕ) (ts : List (Option Transaction)) (sound :
 -- stamping keeps every number at or below the clock
 pub stamped-sound : (set : ℕ → Bool) (s : Held) → Sound s → ((v : ℕ) → variables ≤ v → set v ≡ false) → Sound (stamped set s)
 stamped-sound set s sound outside =
-    record
-    { versions =
-        λ v.
-        cond-both (set v) (s .clock + 1) (s .version v) (λ (n : ℕ). n ≤ s .clock + 1) (λ e. omega arith)
-        (λ e. let h : s .version v ≤ s .clock = sound .versions v in omega arith)
-    ; read-versions = λ t x e. let h : x .read-version ≤ s .clock = sound .read-versions t x e in omega arith
-    ; task = sound .task
-    ; unwritten = λ v h. cond-false (set v) (s .clock + 1) (s .version v) (outside v h) ∙ sound .unwritten v h
-    ; read-below = sound .read-below
-    ; written-below = sound .written-below
+    record {
+      versions =
+          λ v.
+          cond-both (set v) (s .clock + 1) (s .version v) (λ (n : ℕ). n ≤ s .clock + 1) (λ e. omega arith)
+          (λ e. let h : s .version v ≤ s .clock = sound .versions v in omega arith);
+      read-versions = λ t x e. let h : x .read-version ≤ s .clock = sound .read-versions t x e in omega arith;
+      task = sound .task;
+      unwritten = λ v h. cond-false (set v) (s .clock + 1) (s .version v) (outside v h) ∙ sound .unwritten v h;
+      read-below = sound .read-below;
+      written-below = sound .written-below;
     }

@@ -1,15 +1,15 @@
 -- Counting different numbers keeps their order, for lists of any length.
-use Prim.Native.Nat.{ℕ, suc, _+_, _<_, _≤_}
-use mathlib.Core.Path.{_≡_, refl}
+use Prim.Native.Nat.{ℕ, zero, suc, _+_, _<_, _≤_}
+use mathlib.Core.Path.{_≡_, refl, sym, ap}
 use mathlib.Core.Logic.{_⊎_, inl, inr}
 use mathlib.Core.Bool.{Bool, true, false, not, cond, _&&_, _||_}
 use mathlib.Core.List.{List, [], _∷_}
 use native.Mathlib.Omega.{arith}
 use lib.Dec.{ltb, eqb}
 use lib.ListN.{length}
-use Rattle.std.proofs.shelf.Tests.{cases-bool, cases-lt, eqb-true, or-cases, both-ways, lt-ltb, le-ltb}
+use Rattle.std.proofs.shelf.Tests.{cases-bool, cases-lt, cases-eq}
 use Rattle.std.proofs.shelf.Ways.{tells}
-use Rattle.clock.specs.Different.{among, different, different-below}
+use Rattle.clock.specs.Different.{among, different, different-below, how-many-below}
 
 -- a higher bound counts no fewer
 pub below-mono : (ns : List ℕ) (x y : ℕ) → x ≤ y → different-below ns x ≤ different-below ns y
@@ -25,17 +25,17 @@ unfolding different-below among
 below-strict [] a x e h = grind (arith, tells)
 below-strict (n ∷ ns) a x e h =
     let m : different-below ns a ≤ different-below ns x = below-mono ns a x (omega arith) in
-    elim (cases-bool (among ns a))
-    [ inl k ↦ let r : different-below ns a < different-below ns x = below-strict ns a x k h in grind (arith, tells)
-    | inr k ↦ let i : n ≡ a = grind (arith, tells) in grind (arith, tells)
+    elim (cases-bool (among ns a)) [
+      | inl k ↦ let r : different-below ns a < different-below ns x = below-strict ns a x k h in grind (arith, tells)
+      | inr k ↦ let i : n ≡ a = grind (arith, tells) in grind (arith, tells)
     ]
 
 -- so a number of the list and any other number stay in order
 pub below-order : (ns : List ℕ) (a x : ℕ) → among ns a ≡ true → ltb (different-below ns a) (different-below ns x) ≡ ltb a x
 below-order ns a x e =
-    elim (cases-lt a x)
-    [ inl h ↦ let r : different-below ns a < different-below ns x = below-strict ns a x e h in grind (arith, tells)
-    | inr h ↦ let r : different-below ns x ≤ different-below ns a = below-mono ns x a h in grind (arith, tells)
+    elim (cases-lt a x) [
+      | inl h ↦ let r : different-below ns a < different-below ns x = below-strict ns a x e h in grind (arith, tells)
+      | inr h ↦ let r : different-below ns x ≤ different-below ns a = below-mono ns x a h in grind (arith, tells)
     ]
 
 -- nothing is below zero
@@ -81,3 +81,32 @@ below-above n ns x h = grind (arith, tells)
 pub below-none : (x : ℕ) → different-below [] x ≡ 0
 unfolding different-below
 below-none x = refl
+
+-- one more number in the list
+counts-more : (n : ℕ) (ns : List ℕ) (x : ℕ)
+    → how-many-below x (λ y. eqb n y || among ns y) ≡ cond (ltb n x && not (among ns n)) 1 0 + how-many-below x (among ns)
+unfolding how-many-below
+counts-more n ns zero = grind (arith, tells)
+counts-more n ns (suc x) =
+    let r
+        : how-many-below x (λ y. eqb n y || among ns y)
+            ≡ cond (ltb n x && not (among ns n)) 1 0 + how-many-below x (among ns) =
+        counts-more n ns x in
+    elim (cases-eq n x)
+    [ inl e ↦ let k : among ns n ≡ among ns x = ap (among ns) e in grind (arith, tells)
+    | inr e ↦ grind (arith, tells)
+    ]
+
+counts-none : (x : ℕ) → how-many-below x (λ y. false) ≡ 0
+unfolding how-many-below
+counts-none zero = refl
+counts-none (suc x) = let r : how-many-below x (λ y. false) ≡ 0 = counts-none x in omega arith
+
+-- the different numbers below x are counted once each: they are the numbers below x that are in the list
+pub below-counts : (ns : List ℕ) (x : ℕ) → different-below ns x ≡ how-many-below x (among ns)
+unfolding different-below among
+below-counts [] x = sym (counts-none x)
+below-counts (n ∷ ns) x =
+    let r : different-below ns x ≡ how-many-below x (among ns) = below-counts ns x in
+    let k = counts-more n ns x in
+    omega arith

@@ -45,22 +45,22 @@ newer-zero (Some x) n z e = omega (arith, ltb-true (x .read-version) n e)
 -- what is held of tasks and variables is of ones that there are
 pub proper : (s : Held) → Sound s → Proper (meaning s)
 proper s sound =
-    record
-    { no-reads = λ t v. idle-reads (s .transaction t) v
-    ; no-writes = λ t v. idle-writes (s .transaction t) v
-    ; not-behind = λ t. idle-behind (s .transaction t) (s .version)
-    ; may-read-all = λ t v. idle-newer (s .transaction t) (s .version v)
-    ; may-write-all = λ t v e. refl
-    ; task = sound .task
-    ; read-below = sound .read-below
-    ; written-below = sound .written-below
-    ; no-read-below =
-        λ t v e.
-        elim (cases-lt v variables)
-        [ inl h ↦ h
-        | inr h ↦ absurd (newer-zero (s .transaction t) (s .version v) (sound .unwritten v h) e)
-        ]
-    ; no-write-below = λ t v e. absurd (both-ways false refl e)
+    record {
+      no-reads = λ t v. idle-reads (s .transaction t) v;
+      no-writes = λ t v. idle-writes (s .transaction t) v;
+      not-behind = λ t. idle-behind (s .transaction t) (s .version);
+      may-read-all = λ t v. idle-newer (s .transaction t) (s .version v);
+      may-write-all = λ t v e. refl;
+      task = sound .task;
+      read-below = sound .read-below;
+      written-below = sound .written-below;
+      no-read-below =
+          λ t v e.
+          elim (cases-lt v variables) [
+            | inl h ↦ h
+            | inr h ↦ absurd (newer-zero (s .transaction t) (s .version v) (sound .unwritten v h) e)
+          ];
+      no-write-below = λ t v e. absurd (both-ways false refl e);
     }
 
 module _ (s : Held) (t v : ℕ) (fit : fit-access (meaning s) t v ≡ true) where

@@ -65,9 +65,9 @@ pub among-read-versions : (n : ℕ) (ts : ℕ → Option Running) (t : ℕ) (x :
 unfolding read-versions
 among-read-versions zero ts t x h e = absurd (omega arith)
 among-read-versions (suc n) ts t x h e =
-    elim (cases-eq t n)
-    [ inl i ↦ among-first (ts n) (read-versions n ts) x (subst (λ (u : ℕ). ts u ≡ Some x) i e)
-    | inr i ↦ among-rest (ts n) (read-versions n ts) (x .read-version) (among-read-versions n ts t x (omega arith) e)
+    elim (cases-eq t n) [
+      | inl i ↦ among-first (ts n) (read-versions n ts) x (subst (λ (u : ℕ). ts u ≡ Some x) i e)
+      | inr i ↦ among-rest (ts n) (read-versions n ts) (x .read-version) (among-read-versions n ts t x (omega arith) e)
     ]
 
 below-first : (o : Option Running) (ns : List ℕ) (a b : ℕ) → ((x : Running) → o ≡ Some x → x .read-version < b)
@@ -75,9 +75,9 @@ below-first : (o : Option Running) (ns : List ℕ) (a b : ℕ) → ((x : Running
 unfolding among
 below-first None ns a b h r e = r e
 below-first (Some x) ns a b h r e =
-    elim (or-cases (eqb (x .read-version) a) (among ns a) e)
-    [ inl i ↦ let k : x .read-version < b = h x refl in omega (arith, eqb-true (x .read-version) a i)
-    | inr i ↦ r i
+    elim (or-cases (eqb (x .read-version) a) (among ns a) e) [
+      | inl i ↦ let k : x .read-version < b = h x refl in omega (arith, eqb-true (x .read-version) a i)
+      | inr i ↦ r i
     ]
 
 -- a bound on every read version is a bound on the list

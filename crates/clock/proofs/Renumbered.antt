@@ -62,25 +62,25 @@ module _ (s : Held) (sound : Sound s) where
   -- a policy means the same before and after
   pub renumbered-meaning : meaning (renumbered s) ≡ meaning s
   renumbered-meaning =
-      λ i. record
-      { active = fun-ext (λ t. active-at (different-below (read-versions tasks (s .transaction))) (s .transaction t)) i
-      ; reads = fun-ext (λ t. fun-ext (reads-at (different-below (read-versions tasks (s .transaction))) (s .transaction t))) i
-      ; writes = fun-ext (λ t. fun-ext (writes-at (different-below (read-versions tasks (s .transaction))) (s .transaction t))) i
-      ; behind = fun-ext (λ t. ap (some-below variables) (stale-same t)) i
-      ; no-read = fun-ext (λ t. fun-ext (no-read-same t)) i
-      ; no-write = λ t v. false
+      λ i. record {
+        active = fun-ext (λ t. active-at (different-below (read-versions tasks (s .transaction))) (s .transaction t)) i;
+        reads = fun-ext (λ t. fun-ext (reads-at (different-below (read-versions tasks (s .transaction))) (s .transaction t))) i;
+        writes = fun-ext (λ t. fun-ext (writes-at (different-below (read-versions tasks (s .transaction))) (s .transaction t))) i;
+        behind = fun-ext (λ t. ap (some-below variables) (stale-same t)) i;
+        no-read = fun-ext (λ t. fun-ext (no-read-same t)) i;
+        no-write = λ t v. false;
       }
 
   pub renumbered-sound : Sound (renumbered s)
   renumbered-sound =
       let ns : List ℕ = read-versions tasks (s .transaction) in
-      record
-      { versions = λ v. below-all ns (s .version v)
-      ; read-versions = λ t x e. read-version-at ns (s .transaction t) x e
-      ; task = λ t e. sound .task t (sym (active-at (different-below ns) (s .transaction t)) ∙ e)
-      ; unwritten = λ v h. ap (different-below ns) (sound .unwritten v h) ∙ below-zero ns
-      ; read-below = λ t v e. sound .read-below t v (sym (reads-at (different-below ns) (s .transaction t) v) ∙ e)
-      ; written-below = λ t v e. sound .written-below t v (sym (writes-at (different-below ns) (s .transaction t) v) ∙ e)
+      record {
+        versions = λ v. below-all ns (s .version v);
+        read-versions = λ t x e. read-version-at ns (s .transaction t) x e;
+        task = λ t e. sound .task t (sym (active-at (different-below ns) (s .transaction t)) ∙ e);
+        unwritten = λ v h. ap (different-below ns) (sound .unwritten v h) ∙ below-zero ns;
+        read-below = λ t v e. sound .read-below t v (sym (reads-at (different-below ns) (s .transaction t) v) ∙ e);
+        written-below = λ t v e. sound .written-below t v (sym (writes-at (different-below ns) (s .transaction t) v) ∙ e);
       }
 
   -- the clock is then at most the number of tasks

@@ -24,13 +24,14 @@ Rewritten number ts rs t =
 module _ (number : ℕ → ℕ) (ts rs : List (Option Transaction)) (t : ℕ) (before : Rewritten number ts rs t) where
   here : (qs : List (Option Transaction)) → ((u : ℕ) → (u ≡ t → ⊥) → getD qs u None ≡ getD rs u None)
       → row (getD qs t None) ≡ at-version number (row (getD ts t None)) → Rewritten number ts qs (t + 1)
-  here qs other at =
-      ( (λ u h.
-          elim (cases-eq u t)
-          [ inl e ↦ subst (λ (k : ℕ). row (getD qs k None) ≡ at-version number (row (getD ts k None))) (sym e) at
+  here qs other at = (
+    (λ u h.
+        elim (cases-eq u t) [
+          | inl e ↦ subst (λ (k : ℕ). row (getD qs k None) ≡ at-version number (row (getD ts k None))) (sym e) at
           | inr e ↦ ap row (other u e) ∙ before .0 u (omega arith)
-          ])
-      , (λ u h. other u (λ e. omega arith) ∙ before .1 u (omega arith)))
+        ]),
+    (λ u h. other u (λ e. omega arith) ∙ before .1 u (omega arith)),
+  )
 
   -- a row that holds no transaction stays
   pub rewritten-idle : ((x : Transaction) → getD ts t None ≡ Some x → ⊥) → Rewritten number ts rs (t + 1)

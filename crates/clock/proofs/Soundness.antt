@@ -52,35 +52,35 @@ pub sound-arrays : (clock : ℕ) (ns : List ℕ) (ts : List (Option Transaction)
     → ((t : ℕ) → begun-after clock (getD ts t None) ≡ false)
     → Sound (record { clock = clock; version = numbers ns; transaction = rows ts })
 sound-arrays clock ns ts written begun =
-    record
-    { versions = numbers-le clock ns written
-    ; read-versions =
-        λ t x.
-        rows-at ts t (λ (o : Option Running). o ≡ Some x → x .read-version ≤ clock)
-        (λ e. absurd (false≢true (ap isSome e)))
-        (λ h e. row-le clock (getD ts t None) x (begun t) e)
-    ; task =
-        λ t. rows-at ts t (λ (o : Option Running). isSome o ≡ true → t < tasks) (λ e. absurd (both-ways false refl e)) (λ h e. h)
-    ; unwritten = λ v h. cond-false (ltb v variables) (getD ns v 0) 0 (le-ltb v variables h)
-    ; read-below =
-        λ t v.
-        rows-at ts t (λ (o : Option Running). reads-of o v ≡ true → v < variables) (λ e. absurd (both-ways false refl e))
-        (λ h e. row-reads (getD ts t None) v e)
-    ; written-below =
-        λ t v.
-        rows-at ts t (λ (o : Option Running). writes-of o v ≡ true → v < variables) (λ e. absurd (both-ways false refl e))
-        (λ h e. row-writes (getD ts t None) v e)
+    record {
+      versions = numbers-le clock ns written;
+      read-versions =
+          λ t x.
+          rows-at ts t (λ (o : Option Running). o ≡ Some x → x .read-version ≤ clock)
+          (λ e. absurd (false≢true (ap isSome e)))
+          (λ h e. row-le clock (getD ts t None) x (begun t) e);
+      task =
+          λ t. rows-at ts t (λ (o : Option Running). isSome o ≡ true → t < tasks) (λ e. absurd (both-ways false refl e)) (λ h e. h);
+      unwritten = λ v h. cond-false (ltb v variables) (getD ns v 0) 0 (le-ltb v variables h);
+      read-below =
+          λ t v.
+          rows-at ts t (λ (o : Option Running). reads-of o v ≡ true → v < variables) (λ e. absurd (both-ways false refl e))
+          (λ h e. row-reads (getD ts t None) v e);
+      written-below =
+          λ t v.
+          rows-at ts t (λ (o : Option Running). writes-of o v ≡ true → v < variables) (λ e. absurd (both-ways false refl e))
+          (λ h e. row-writes (getD ts t None) v e);
     }
 
 -- and back: what the type of a policy asks of its versions
 pub written-from : (clock : ℕ) (ns : List ℕ) → length ns ≡ variables → ((v : ℕ) → numbers ns v ≤ clock)
     → (v : ℕ) → ltb clock (getD ns v 0) ≡ false
 written-from clock ns wide h v =
-    elim (cases-lt v variables)
-    [ inl l ↦
-        le-ltb clock (getD ns v 0)
-        (subst (λ (n : ℕ). n ≤ clock) (cond-true (ltb v variables) (getD ns v 0) 0 (lt-ltb v variables l)) (h v))
-    | inr l ↦ le-ltb clock (getD ns v 0) (let e : getD ns v 0 ≡ 0 = getD-past ns v 0 (omega arith) in omega arith)
+    elim (cases-lt v variables) [
+      | inl l ↦
+          le-ltb clock (getD ns v 0)
+          (subst (λ (n : ℕ). n ≤ clock) (cond-true (ltb v variables) (getD ns v 0) 0 (lt-ltb v variables l)) (h v))
+      | inr l ↦ le-ltb clock (getD ns v 0) (let e : getD ns v 0 ≡ 0 = getD-past ns v 0 (omega arith) in omega arith)
     ]
 
 begun-row : (clock : ℕ) (o : Option Transaction) → ((x : Running) → row o ≡ Some x → x .read-version ≤ clock) → begun-after clock o ≡ false
@@ -92,7 +92,7 @@ pub begun-from : (clock : ℕ) (ts : List (Option Transaction)) → length ts �
     → ((t : ℕ) (x : Running) → rows ts t ≡ Some x → x .read-version ≤ clock)
     → (t : ℕ) → begun-after clock (getD ts t None) ≡ false
 begun-from clock ts wide h t =
-    elim (cases-lt t tasks)
-    [ inl l ↦ begun-row clock (getD ts t None) (λ x e. h t x (row-at ts t l ∙ e))
-    | inr l ↦ ap (begun-after clock) (getD-past ts t None (omega arith))
+    elim (cases-lt t tasks) [
+      | inl l ↦ begun-row clock (getD ts t None) (λ x e. h t x (row-at ts t l ∙ e))
+      | inr l ↦ ap (begun-after clock) (getD-past ts t None (omega arith))
     ]

@@ -52,13 +52,13 @@ stale-for x version v = x .reads v && ltb (x .read-version) (version v)
 -- the six facts
 abbrev pub meaning : Held → Facts
 meaning s =
-    record
-    { active = λ t. isSome (s .transaction t)
-    ; reads = λ t v. reads-of (s .transaction t) v
-    ; writes = λ t v. writes-of (s .transaction t) v
-    ; behind = λ t. some-below variables (stale s t)
-    ; no-read = λ t v. newer (s .transaction t) (s .version v)
-    ; no-write = λ t v. false
+    record {
+      active = λ t. isSome (s .transaction t);
+      reads = λ t v. reads-of (s .transaction t) v;
+      writes = λ t v. writes-of (s .transaction t) v;
+      behind = λ t. some-below variables (stale s t);
+      no-read = λ t v. newer (s .transaction t) (s .version v);
+      no-write = λ t v. false;
     }
 
 -- what a policy of these many tasks and variables can hold: no number is above the clock, and nothing is held of

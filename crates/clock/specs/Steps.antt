@@ -18,8 +18,8 @@ abbrev pub top : ℕ
 top = 4294967295
 
 -- task t's transaction is x now, and nothing else changes
-abbrev pub put : ℕ → Option Running → Held → Held
-put t x s =
+abbrev pub with-transaction : ℕ → Option Running → Held → Held
+with-transaction t x s =
     record { clock = s .clock; version = s .version; transaction = λ u. cond (eqb u t) x (s .transaction u) }
 
 -- a transaction that begins now
@@ -29,10 +29,10 @@ begun clock = record { read-version = clock; reads = nothing; writes = nothing }
 -- a read of v enters the read set unless v was written before
 abbrev pub and-read : ℕ → Running → Running
 and-read v x =
-    record
-    { read-version = x .read-version
-    ; reads = cond (x .writes v) (x .reads) (plus (x .reads) v)
-    ; writes = x .writes
+    record {
+      read-version = x .read-version;
+      reads = cond (x .writes v) (x .reads) (plus (x .reads) v);
+      writes = x .writes;
     }
 
 abbrev pub with-read : ℕ → Option Running → Option Running
@@ -67,10 +67,10 @@ at-version number (Some x) =
 abbrev pub renumbered : Held → Held
 renumbered s =
     let versions : List ℕ = read-versions tasks (s .transaction) in
-    record
-    { clock = different versions
-    ; version = λ v. different-below versions (s .version v)
-    ; transaction = λ t. at-version (different-below versions) (s .transaction t)
+    record {
+      clock = different versions;
+      version = λ v. different-below versions (s .version v);
+      transaction = λ t. at-version (different-below versions) (s .transaction t);
     }
 
 -- what is held means the same before and after
@@ -84,10 +84,10 @@ with-room s = cond (eqb (s .clock) top) (renumbered s) s
 -- the clock is one higher, and is the version of everything in the set
 abbrev pub stamped : (ℕ → Bool) → Held → Held
 stamped set s =
-    record
-    { clock = s .clock + 1
-    ; version = λ v. cond (set v) (s .clock + 1) (s .version v)
-    ; transaction = s .transaction
+    record {
+      clock = s .clock + 1;
+      version = λ v. cond (set v) (s .clock + 1) (s .version v);
+      transaction = s .transaction;
     }
 
 -- what was written becomes new, if anything was
@@ -96,15 +96,15 @@ published set s = cond (some-below variables set) (stamped set (with-room s)) s
 
 -- what is held after a call
 abbrev pub next : Move → Held → Held
-next (begin t) s = put t (Some (begun (s .clock))) s
-next (read t v) s = put t (with-read v (s .transaction t)) s
-next (write t v) s = put t (with-write v (s .transaction t)) s
-next (read-refused t v) s = put t None s
-next (write-refused t v) s = put t None s
-next (commit t) s = put t None (published (writes-of (s .transaction t)) s)
-next (commit-refused t) s = put t None s
-next (abort t) s = put t None s
+next (begin t) s = with-transaction t (Some (begun (s .clock))) s
+next (read t v) s = with-transaction t (with-read v (s .transaction t)) s
+next (write t v) s = with-transaction t (with-write v (s .transaction t)) s
+next (read-refused t v) s = with-transaction t None s
+next (write-refused t v) s = with-transaction t None s
+next (commit t) s = with-transaction t None (published (writes-of (s .transaction t)) s)
+next (commit-refused t) s = with-transaction t None s
+next (abort t) s = with-transaction t None s
 
 -- what a new policy holds: its clock, and nothing else
-abbrev pub start : ℕ → Held
-start clock = record { clock = clock; version = λ v. 0; transaction = λ t. None }
+abbrev pub new-policy : ℕ → Held
+new-policy clock = record { clock = clock; version = λ v. 0; transaction = λ t. None }

@@ -41,47 +41,51 @@ pub impl Policy for Clock as ClockPolicy {
         if task as usize >= TASKS || self.transaction(task).is_some() {
             return Err(PolicyFault::Unfit);
         }
-        let x = Transaction::begin(self.clock);
-        self.put(task, Some(x));
+        let transaction = Transaction::begin(self.clock);
+        self.set_transaction(task, Some(transaction));
         Ok(Granted)
     }
 
     fn read(&mut self, task: u8, variable: u8) -> Result<Granted, PolicyFault> {
-        let Some(x) = self.transaction(task) else {
+        let Some(transaction) = self.transaction(task) else {
             return Err(PolicyFault::Unfit);
         };
         if variable as usize >= VARIABLES {
             return Err(PolicyFault::Unfit);
         }
-        if !x.writes.has(variable) && self.versions[variable as usize] > x.read_version {
-            self.put(task, None);
+        if !transaction.writes.has(variable)
+            && self.versions[variable as usize] > transaction.read_version
+        {
+            self.set_transaction(task, None);
             return Err(PolicyFault::ReadBarred(variable));
         }
-        self.put(task, Some(x.with_read(variable)));
+        self.set_transaction(task, Some(transaction.with_read(variable)));
         Ok(Granted)
     }
 
     fn write(&mut self, task: u8, variable: u8) -> Result<Granted, PolicyFault> {
-        let Some(x) = self.transaction(task) else {
+        let Some(transaction) = self.transaction(task) else {
             return Err(PolicyFault::Unfit);
         };
         if variable as usize >= VARIABLES {
             return Err(PolicyFault::Unfit);
         }
-        self.put(task, Some(x.with_write(variable)));
+        self.set_transaction(task, Some(transaction.with_write(variable)));
         Ok(Granted)
     }
 
     fn commit(&mut self, task: u8) -> Result<Granted, PolicyFault> {
-        let Some(x) = self.transaction(task) else {
+        let Some(transaction) = self.transaction(task) else {
             return Err(PolicyFault::Unfit);
         };
-        if (Self::STRICT || !x.writes.is_empty()) && is_stale(&self.versions, x) {
-            self.put(task, None);
+        if (Self::STRICT || !transaction.writes.is_empty())
+            && is_stale(&self.versions, transaction)
+        {
+            self.set_transaction(task, None);
             return Err(PolicyFault::CommitRefused);
         }
-        self.publish(x.writes);
-        self.put(task, None);
+        self.publish(transaction.writes);
+        self.set_transaction(task, None);
         Ok(Granted)
     }
 
@@ -89,20 +93,22 @@ pub impl Policy for Clock as ClockPolicy {
         if self.transaction(task).is_none() {
             return Err(PolicyFault::Unfit);
         }
-        self.put(task, None);
+        self.set_transaction(task, None);
         Ok(Granted)
     }
 
     fn is_behind(&self, task: u8) -> Result<bool, PolicyFault> {
         match self.transaction(task) {
-            Some(x) => Ok(is_stale(&self.versions, x)),
+            Some(transaction) => Ok(is_stale(&self.versions, transaction)),
             None => Err(PolicyFault::Unfit),
         }
     }
 
     fn has_written(&self, task: u8, variable: u8) -> Result<bool, PolicyFault> {
         match self.transaction(task) {
-            Some(x) if (variable as usize) < VARIABLES => Ok(x.writes.has(variable)),
+            Some(transaction) if (variable as usize) < VARIABLES => Ok(
+                transaction.writes.has(variable),
+            ),
             _ => Err(PolicyFault::Unfit),
         }
     }

@@ -7,7 +7,7 @@ ghost use Rattle.policy.specs.Limits.{tasks, variables};
 ghost use Rattle.policy.specs.Facts.{«some-below»};
 ghost use Rattle.varset.specs.Members.{member};
 ghost use Rattle.clock.specs.Held.{«stale-for»};
-ghost use Rattle.clock.specs.Steps.{top, put as putting, renumbered as renumbering, stamped, published, «No-fact-changed»};
+ghost use Rattle.clock.specs.Steps.{top, «with-transaction», renumbered, stamped, published, «No-fact-changed»};
 ghost use Rattle.clock.specs.Rows.{row, running, numbers, «begun-after»};
 ghost use Rattle.clock.specs.Clocks.{held};
 use crate::renumbering::different_below;
@@ -54,16 +54,16 @@ impl Clock {
         }
     }
 
-    pub(crate) fn put(&mut self, task: u8, x: Option<Transaction>)
-        requires { ⌜ task < tasks ⌝ ∗ ⌜ «begun-after» (now self .clock) x ≡ false ⌝ }
-        ensures { λ _. ⌜ held (now (self .exit)) ≡ putting task (row x) (held (now (self .entry))) ⌝ }
+    pub(crate) fn set_transaction(&mut self, task: u8, to: Option<Transaction>)
+        requires { ⌜ task < tasks ⌝ ∗ ⌜ «begun-after» (now self .clock) to ≡ false ⌝ }
+        ensures { λ _. ⌜ held (now (self .exit)) ≡ «with-transaction» task (row to) (held (now (self .entry))) ⌝ }
     {
-        self.transactions[task as usize] = x;
+        self.transactions[task as usize] = to;
     }
 
     // Smaller numbers in the same order. This changes no fact.
     fn renumber(&mut self)
-        ensures numbers { λ _. ⌜ held (now (self .exit)) ≡ renumbering (held (now (self .entry))) ⌝ }
+        ensures numbers { λ _. ⌜ held (now (self .exit)) ≡ renumbered (held (now (self .entry))) ⌝ }
         ensures same { λ _. ⌜ «No-fact-changed» (held (now (self .entry))) (held (now (self .exit))) ⌝ }
     {
         let clock = different_below(&self.transactions, u64::from(self.clock) + 1);

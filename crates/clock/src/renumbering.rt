@@ -34,7 +34,9 @@ pub(crate) fn different_below(transactions: &[Option<Transaction>; TASKS], bound
     let mut different = 0;
     for t in 0..TASKS {
         if let Some(x) = transactions[t] {
-            if u64::from(x.read_version) < bound && !is_read_version(transactions, t, x.read_version) {
+            if u64::from(x.read_version) < bound
+                && !is_read_version(transactions, t, x.read_version)
+            {
                 different += 1;
             }
         }
@@ -42,7 +44,10 @@ pub(crate) fn different_below(transactions: &[Option<Transaction>; TASKS], bound
     different
 }
 
-pub(crate) fn renumber_versions(versions: &mut [u32; VARIABLES], transactions: &[Option<Transaction>; TASKS])
+pub(crate) fn renumber_versions(
+    versions: &mut [u32; VARIABLES],
+    transactions: &[Option<Transaction>; TASKS],
+)
     ensures { λ _. ⌜ now (versions .exit) ≡ map («different-below» («read-versions» tasks (rows (now (transactions .entry))))) (now (versions .entry)) ⌝ }
 {
     for version in versions.iter_mut() {

@@ -36,11 +36,11 @@ loop-v-again c =
     let has : Bool = member (c .args .x .reads) (c .loop-v .v) in
     let above : Bool = ltb (c .args .x .«read_version») (numbers (c .args .versions .now) (c .loop-v .v)) in
     let out : (has && above) ≡ false =
-        elim (c .else-has .came)
-        [ else-has·by·then-has·else-versions-v w ↦
-            and-right has above
-            (ap (ltb (c .args .x .«read_version»)) (number-at (c .args .versions .now) (c .loop-v .v) here)
-            ∙ le-ltb (c .args .x .«read_version») (getD (c .args .versions .now) (c .loop-v .v) 0) (w .if-versions-v .left))
-        | else-has·by·else-has w ↦ and-left has above (sym (w .if-has .ensures tt))
-        ] in
+    elim (c .else-has .came) [
+      | else-has·by·then-has·else-versions-v w ↦
+          and-right has above
+          (ap (ltb (c .args .x .«read_version»)) (number-at (c .args .versions .now) (c .loop-v .v) here)
+          ∙ le-ltb (c .args .x .«read_version») (getD (c .args .versions .now) (c .loop-v .v) 0) (w .if-versions-v .left))
+      | else-has·by·else-has w ↦ and-left has above (sym (w .if-has .ensures tt))
+    ] in
     rw add-one (some-below-more (c .loop-v .v) test ∙ or-from (test (c .loop-v .v)) _ out (c .loop-v .inv))

@@ -12,40 +12,41 @@ use Rattle.clock.proofs.renumbering.different_below.Needs as need
 use Rattle.clock.proofs.renumbering.different_below.Needs.{in-Some·then-from-bound·then-not-is-read-version, in-Some·else-from-bound, else-from-bound·by·then-from-bound·else-not-is-read-version, else-from-bound·by·else-from-bound, in-rest}
 
 pub loop-t-holds : need.loop-t-holds
-loop-t-holds c =
-    ( sym
+loop-t-holds c = (
+  sym
       (ap (λ ns. different-below ns (c .args .bound)) (read-versions-none (rows (c .args .transactions .now)))
-      ∙ below-none (c .args .bound))
-    , omega arith)
+      ∙ below-none (c .args .bound)),
+  omega arith,
+)
 
 pub loop-t-again : need.loop-t-again
 loop-t-again c =
     let there : c .loop-t .t < tasks = omega arith in
     let ns : List ℕ = read-versions (c .loop-t .t) (rows (c .args .transactions .now)) in
-    elim (c .match-transactions-t .came)
-    [ in-Some·then-from-bound·then-not-is-read-version w ↦
-        let e = read-versions-begun (c .args .transactions .now) (c .loop-t .t) there (w .in-Some .x) (w .in-Some .is) in
-        let d =
-            ap (λ ns. different-below ns (c .args .bound)) e
-            ∙ below-new (w .in-Some .x .«read_version») ns (c .args .bound) (omega arith)
-            (sym (w .if-not-is-read-version .ensures tt)) in
-        (omega (arith, d), omega arith)
-    | in-Some·else-from-bound w ↦
-        let e = read-versions-begun (c .args .transactions .now) (c .loop-t .t) there (w .in-Some .x) (w .in-Some .is) in
-        let d = ap (λ ns. different-below ns (c .args .bound)) e in
-        elim (w .else-from-bound .came)
-        [ else-from-bound·by·then-from-bound·else-not-is-read-version w′ ↦
-            let k =
+    elim (c .match-transactions-t .came) [
+      | in-Some·then-from-bound·then-not-is-read-version w ↦
+          let e = read-versions-begun (c .args .transactions .now) (c .loop-t .t) there (w .in-Some .x) (w .in-Some .is) in
+          let d =
+          ap (λ ns. different-below ns (c .args .bound)) e
+          ∙ below-new (w .in-Some .x .«read_version») ns (c .args .bound) (omega arith)
+          (sym (w .if-not-is-read-version .ensures tt)) in
+          (omega (arith, d), omega arith)
+      | in-Some·else-from-bound w ↦
+          let e = read-versions-begun (c .args .transactions .now) (c .loop-t .t) there (w .in-Some .x) (w .in-Some .is) in
+          let d = ap (λ ns. different-below ns (c .args .bound)) e in
+          elim (w .else-from-bound .came) [
+            | else-from-bound·by·then-from-bound·else-not-is-read-version w′ ↦
+                let k =
                 d
                 ∙ below-known (w .in-Some .x .«read_version») ns (c .args .bound)
                 (sym (w′ .if-not-is-read-version .ensures tt)) in
-            (omega (arith, k), omega arith)
-        | else-from-bound·by·else-from-bound w′ ↦
-            let k = d ∙ below-above (w .in-Some .x .«read_version») ns (c .args .bound) (omega arith) in
-            (omega (arith, k), omega arith)
-        ]
-    | in-rest w ↦
-        let e = read-versions-idle (c .args .transactions .now) (c .loop-t .t) there (w .in-rest .not-Some) in
-        let d = ap (λ ns. different-below ns (c .args .bound)) e in
-        (omega (arith, d), omega arith)
+                (omega (arith, k), omega arith)
+            | else-from-bound·by·else-from-bound w′ ↦
+                let k = d ∙ below-above (w .in-Some .x .«read_version») ns (c .args .bound) (omega arith) in
+                (omega (arith, k), omega arith)
+          ]
+      | in-rest w ↦
+          let e = read-versions-idle (c .args .transactions .now) (c .loop-t .t) there (w .in-rest .not-Some) in
+          let d = ap (λ ns. different-below ns (c .args .bound)) e in
+          (omega (arith, d), omega arith)
     ]

@@ -14,10 +14,13 @@ use Rattle.clock.proofs.state.Clock.publish.Needs.{then-self, else-self}
 -- a clock that was at its top is low again
 pub stamp-requires : need.stamp-requires
 stamp-requires c κs =
-    elim (c .if-self .came)
-    [ then-self w ↦
-        omega
-        (arith, ap (λ (p : Clock). p .clock) (w .self-is), ap (λ (s : Held). s .clock) (w .renumber .ensures .numbers),
-        renumbered-clock (held (c .args .self .now)) (sound (c .args .self .now)))
-    | else-self w ↦ omega (arith, ap (λ (p : Clock). p .clock) (w .self-is))
+    elim (c .if-self .came) [
+      | then-self w ↦
+          omega (
+            arith,
+            ap (λ (p : Clock). p .clock) (w .self-is),
+            ap (λ (s : Held). s .clock) (w .renumber .ensures .numbers),
+            renumbered-clock (held (c .args .self .now)) (sound (c .args .self .now)),
+          )
+      | else-self w ↦ omega (arith, ap (λ (p : Clock). p .clock) (w .self-is))
     ]

@@ -23,8 +23,8 @@ renumbers : (p : Clock) (n clock : ℕ) (ns : List ℕ) (ts : List (Option Trans
     → n ≡ p .clock → clock ≡ different-below (read-versions tasks (rows (p .transactions))) (n + 1)
     → ns ≡ map (different-below (read-versions tasks (rows (p .transactions)))) (p .versions)
     → ((t : ℕ) → t < tasks
-        → row (getD ts t None)
-            ≡ at-version (different-below (read-versions tasks (rows (p .transactions)))) (row (getD (p .transactions) t None)))
+    → row (getD ts t None)
+    ≡ at-version (different-below (read-versions tasks (rows (p .transactions)))) (row (getD (p .transactions) t None)))
     → holding clock ns ts ≡ renumbered (held p)
 renumbers p n clock ns ts wide e c m r =
     renumbered-arrays (p .clock) (p .versions) (p .transactions) (sound p) wide clock ns ts
@@ -46,7 +46,7 @@ pub returns : need.returns
 returns c =
     let wide : length (c .args .self .now .versions) ≡ variables = omega arith in
     let e =
-        renumbers (c .args .self .now) (c .from .result) (c .different-below-clock .result) (c .renumber-versions .last .versions)
-        (c .renumber-transactions .last .transactions) wide (c .from .ensures) (c .different-below-clock .ensures)
-        (c .renumber-versions .ensures) (c .renumber-transactions .ensures) in
+    renumbers (c .args .self .now) (c .from .result) (c .different-below-clock .result) (c .renumber-versions .last .versions)
+    (c .renumber-transactions .last .transactions) wide (c .from .ensures) (c .different-below-clock .ensures)
+    (c .renumber-versions .ensures) (c .renumber-transactions .ensures) in
     record { numbers = e; same = ap meaning e ∙ renumbered-meaning (held (c .args .self .now)) (sound (c .args .self .now)) }

@@ -29,10 +29,11 @@ ghost-self c =
     let p : Clock = c .args .self .now in
     let wide : length (c .args .self .now .versions) ≡ variables = omega arith in
     let s : Sound (holding (p .clock + 1) (c .stamp-versions .last .versions) (p .transactions)) =
-        subst Sound (sym (stamps p (c .args .written) (c .stamp-versions .last .versions) wide (c .stamp-versions .ensures)))
-        (stamped-sound (member (c .args .written)) (held p) (sound p) (member-outside (c .args .written))) in
-    ( written-from (p .clock + 1) (c .stamp-versions .last .versions) (c .stamp-versions .array-long) (s .versions)
-    , ((λ t. begun-later (p .clock) (getD (p .transactions) t None) (p .begun t)), tt))
+    subst Sound (sym (stamps p (c .args .written) (c .stamp-versions .last .versions) wide (c .stamp-versions .ensures)))
+    (stamped-sound (member (c .args .written)) (held p) (sound p) (member-outside (c .args .written))) in (
+      written-from (p .clock + 1) (c .stamp-versions .last .versions) (c .stamp-versions .array-long) (s .versions),
+      ((λ t. begun-later (p .clock) (getD (p .transactions) t None) (p .begun t)), tt),
+    )
 
 pub returns : need.returns
 returns c =
