@@ -3,7 +3,7 @@ ghost use mathlib.Core.Path.{_≡_};
 ghost use Prim.Native.Nat.{ℕ, _<_, _≤_};
 ghost use lib.ListN.{getD};
 ghost use mathlib.Core.List.{map};
-ghost use Rattle.clock.specs.Different.{among, «different-below»};
+ghost use Rattle.clock.specs.Different.{among, «different-below», «how-many-below»};
 ghost use Rattle.clock.specs.Steps.{«read-versions», «at-version»};
 ghost use Rattle.clock.specs.Rows.{row, rows};
 ghost use Rattle.std.specs.declared.option.Option.the-variants.{None as nobody};
@@ -29,7 +29,8 @@ fn is_read_version(transactions: &[Option<Transaction>; TASKS], count: usize, nu
 
 // How many different read versions there are below the bound.
 pub(crate) fn different_below(transactions: &[Option<Transaction>; TASKS], bound: u64) -> u32
-    ensures { λ r. ⌜ r ≡ «different-below» («read-versions» tasks (rows (now (transactions .entry)))) bound ⌝ }
+    ensures number { λ r. ⌜ r ≡ «different-below» («read-versions» tasks (rows (now (transactions .entry)))) bound ⌝ }
+    ensures counts { λ r. ⌜ r ≡ «how-many-below» bound (among («read-versions» tasks (rows (now (transactions .entry))))) ⌝ }
 {
     let mut different = 0;
     for t in 0..TASKS {

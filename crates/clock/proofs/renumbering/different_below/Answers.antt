@@ -6,7 +6,7 @@ use Rattle.policy.specs.Limits.{tasks}
 use Rattle.clock.specs.Different.{different-below}
 use Rattle.clock.specs.Steps.{read-versions}
 use Rattle.clock.specs.Rows.{rows}
-use Rattle.clock.proofs.Counting.{below-none, below-new, below-known, below-above}
+use Rattle.clock.proofs.Counting.{below-none, below-new, below-known, below-above, below-counts}
 use Rattle.clock.proofs.ReadVersions.{read-versions-none, read-versions-idle, read-versions-begun}
 use Rattle.clock.proofs.renumbering.different_below.Needs as need
 use Rattle.clock.proofs.renumbering.different_below.Needs.{in-Some·then-from-bound·then-not-is-read-version, in-Some·else-from-bound, else-from-bound·by·then-from-bound·else-not-is-read-version, else-from-bound·by·else-from-bound, in-rest}
@@ -50,3 +50,14 @@ loop-t-again c =
           let d = ap (λ ns. different-below ns (c .args .bound)) e in
           (omega (arith, d), omega arith)
     ]
+
+pub returns : need.returns
+returns c =
+    let end : c .loop-t .t ≡ tasks = omega arith in
+    let e : c .loop-t .different ≡ different-below (read-versions tasks (rows (c .args .transactions .now))) (c .args .bound) =
+        c .loop-t .inv .0
+        ∙ ap (λ t. different-below (read-versions t (rows (c .args .transactions .now))) (c .args .bound)) end in
+    record
+    { number = e
+    ; counts = e ∙ below-counts (read-versions tasks (rows (c .args .transactions .now))) (c .args .bound)
+    }

@@ -24,7 +24,7 @@ loop-t-again c =
         subst (λ (rs : List (Option Transaction)). Rewritten number ts rs (c .loop-t .t + 1)) (sym (w .transactions-is))
             (rewritten-begun number ts (c .loop-t .transactions) (c .loop-t .t) (c .loop-t .inv .0) (w .in-Some .x)
             (w .different-below-read-version .result) wide (w .in-Some .is)
-            (w .different-below-read-version .ensures ∙ ap number (w .from .ensures))),
+            (w .different-below-read-version .ensures .number ∙ ap number (w .from .ensures))),
         ap length (w .transactions-is) ∙ simp length-set (c .loop-t .inv .1),
       )
       | in-rest w ↦ (

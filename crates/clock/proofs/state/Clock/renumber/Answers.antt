@@ -38,7 +38,7 @@ ghost-self-2 c =
     (subst Sound
     (sym
     (renumbers (c .args .self .now) (c .from .result) (c .different-below-clock .result) (c .renumber-versions .last .versions)
-    (c .renumber-transactions .last .transactions) wide (c .from .ensures) (c .different-below-clock .ensures)
+    (c .renumber-transactions .last .transactions) wide (c .from .ensures) (c .different-below-clock .ensures .number)
     (c .renumber-versions .ensures) (c .renumber-transactions .ensures)))
     (renumbered-sound (held (c .args .self .now)) (sound (c .args .self .now))))
 
@@ -47,6 +47,6 @@ returns c =
     let wide : length (c .args .self .now .versions) ≡ variables = omega arith in
     let e =
     renumbers (c .args .self .now) (c .from .result) (c .different-below-clock .result) (c .renumber-versions .last .versions)
-    (c .renumber-transactions .last .transactions) wide (c .from .ensures) (c .different-below-clock .ensures)
+    (c .renumber-transactions .last .transactions) wide (c .from .ensures) (c .different-below-clock .ensures .number)
     (c .renumber-versions .ensures) (c .renumber-transactions .ensures) in
     record { numbers = e; same = ap meaning e ∙ renumbered-meaning (held (c .args .self .now)) (sound (c .args .self .now)) }
