@@ -89,12 +89,12 @@ unfolding how-many-below
 counts-more n ns zero = grind (arith, tells)
 counts-more n ns (suc x) =
     let r
-        : how-many-below x (λ y. eqb n y || among ns y)
-            ≡ cond (ltb n x && not (among ns n)) 1 0 + how-many-below x (among ns) =
-        counts-more n ns x in
-    elim (cases-eq n x)
-    [ inl e ↦ let k : among ns n ≡ among ns x = ap (among ns) e in grind (arith, tells)
-    | inr e ↦ grind (arith, tells)
+    : how-many-below x (λ y. eqb n y || among ns y)
+    ≡ cond (ltb n x && not (among ns n)) 1 0 + how-many-below x (among ns) =
+    counts-more n ns x in
+    elim (cases-eq n x) [
+      | inl e ↦ let k : among ns n ≡ among ns x = ap (among ns) e in grind (arith, tells)
+      | inr e ↦ grind (arith, tells)
     ]
 
 counts-none : (x : ℕ) → how-many-below x (λ y. false) ≡ 0

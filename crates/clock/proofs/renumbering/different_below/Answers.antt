@@ -55,9 +55,9 @@ pub returns : need.returns
 returns c =
     let end : c .loop-t .t ≡ tasks = omega arith in
     let e : c .loop-t .different ≡ different-below (read-versions tasks (rows (c .args .transactions .now))) (c .args .bound) =
-        c .loop-t .inv .0
-        ∙ ap (λ t. different-below (read-versions t (rows (c .args .transactions .now))) (c .args .bound)) end in
-    record
-    { number = e
-    ; counts = e ∙ below-counts (read-versions tasks (rows (c .args .transactions .now))) (c .args .bound)
+    c .loop-t .inv .0
+    ∙ ap (λ t. different-below (read-versions t (rows (c .args .transactions .now))) (c .args .bound)) end in
+    record {
+      number = e;
+      counts = e ∙ below-counts (read-versions tasks (rows (c .args .transactions .now))) (c .args .bound);
     }

@@ -27,8 +27,8 @@ no-transaction =
 
 pub returns : need.returns
 returns c =
-    record
-    { state =
-        same-held _ _ refl (numbers-from (replicate variables 0) (λ v. 0) (λ v h. getD-filled variables 0 v) (λ v h. refl)) no-transaction
-    ; fresh = λ t. ap isSome (no-transaction t)
+    record {
+      state =
+          same-held _ _ refl (numbers-from (replicate variables 0) (λ v. 0) (λ v h. getD-filled variables 0 v) (λ v h. refl)) no-transaction;
+      fresh = λ t. ap isSome (no-transaction t);
     }
