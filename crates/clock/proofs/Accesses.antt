@@ -1,23 +1,23 @@
 -- The rules of a granted read and of a granted write.
 use Prim.Native.Nat.{ℕ, _<_}
-use mathlib.Core.Path.{_≡_, refl, sym, ap, ap₂, _∙_}
-use mathlib.Core.Logic.{_⊎_, _≢_, inl, inr}
+use mathlib.Core.Path.{_≡_, refl, ap, ap₂, _∙_}
+use mathlib.Core.Logic.{_≢_, inl, inr}
 use mathlib.Core.Bool.{Bool, true, false, not, cond, _&&_, _||_}
 use native.Mathlib.Omega.{arith}
-use lib.Dec.{ltb, eqb}
+use lib.Dec.{ltb}
 use Rattle.std.specs.declared.option.Option.{Option}
 use Rattle.std.specs.declared.option.Option.the-variants.{Some, None}
 use Rattle.std.specs.Options.{isSome}
-use Rattle.std.proofs.shelf.Tests.{cases-bool, cases-eq, both-ways}
+use Rattle.std.proofs.shelf.Tests.{cases-eq}
 use Rattle.std.proofs.shelf.Ways.{tells}
 use Rattle.policy.specs.Limits.{variables}
-use Rattle.policy.specs.Facts.{some-below, may-read, may-write}
+use Rattle.policy.specs.Facts.{some-below, may-read}
 use Rattle.policy.specs.Moves.{Has-read, Has-written}
 use Rattle.policy.proofs.SomeBelow.{some-below-same}
 use Rattle.varset.specs.Members.{plus}
 use Rattle.clock.specs.Held.{Held, Running, meaning, newer, reads-of, writes-of}
 use Rattle.clock.specs.Steps.{with-transaction, with-read, with-write}
-use Rattle.clock.proofs.Putting.{put-same, put-only, put-unchanged, beside}
+use Rattle.clock.proofs.Putting.{put-same, put-only, beside}
 
 module _ (set : ℕ → Bool) (v : ℕ) where
   plus-same : v < variables → plus set v v ≡ true

@@ -1,20 +1,19 @@
 -- Arrays that were renumbered or stamped hold what the steps say.
 use Prim.Native.Nat.{ℕ, _+_, _<_, _≤_}
-use mathlib.Core.Path.{_≡_, refl, sym, ap, subst, _∙_}
-use mathlib.Core.Bool.{Bool, true, false, cond}
+use mathlib.Core.Path.{_≡_, refl, sym, ap, _∙_}
+use mathlib.Core.Bool.{Bool, false, cond}
 use mathlib.Core.List.{List, map}
 use native.Mathlib.Omega.{arith}
 use lib.Dec.{ltb}
 use lib.ListN.{getD, length}
 use Rattle.std.specs.declared.option.Option.{Option}
-use Rattle.std.specs.declared.option.Option.the-variants.{Some, None}
-use Rattle.std.specs.Options.{isSome}
+use Rattle.std.specs.declared.option.Option.the-variants.{None}
 use Rattle.std.proofs.shelf.Lists.{getD-map}
 use Rattle.std.proofs.shelf.Tests.{cond-both, cond-false, le-ltb}
 use Rattle.policy.specs.Limits.{tasks, variables}
 use Rattle.clock.specs.declared.transaction.Transaction.{Transaction}
-use Rattle.clock.specs.Different.{different, different-below}
-use Rattle.clock.specs.Held.{Held, Running, Sound}
+use Rattle.clock.specs.Different.{different-below}
+use Rattle.clock.specs.Held.{Held, Sound}
 use Rattle.clock.specs.Steps.{read-versions, at-version, renumbered, stamped}
 use Rattle.clock.specs.Rows.{row, rows, numbers, begun-after}
 use Rattle.clock.proofs.Counting.{below-bound, below-zero}

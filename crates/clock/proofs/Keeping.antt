@@ -1,8 +1,8 @@
 -- Each call keeps the rules of the interface.
-use Prim.Native.Nat.{ℕ, _<_, _≤_}
-use mathlib.Core.Path.{_≡_, refl, subst, sym, _∙_}
-use mathlib.Core.Logic.{_⊎_, inl, inr}
-use mathlib.Core.Bool.{Bool, true, false, not, _&&_}
+use Prim.Native.Nat.{ℕ, _<_}
+use mathlib.Core.Path.{_≡_, refl}
+use mathlib.Core.Logic.{inl, inr}
+use mathlib.Core.Bool.{true, false, not, _&&_}
 use native.Mathlib.Omega.{arith}
 use lib.Dec.{ltb}
 use Rattle.std.specs.declared.option.Option.{Option}
@@ -10,7 +10,7 @@ use Rattle.std.specs.declared.option.Option.the-variants.{Some, None}
 use Rattle.std.specs.Options.{isSome}
 use Rattle.std.proofs.shelf.Tests.{both-ways, and-parts, ltb-true, not-true, cases-lt}
 use Rattle.policy.specs.Limits.{tasks, variables}
-use Rattle.policy.specs.Facts.{Facts, Proper, some-below}
+use Rattle.policy.specs.Facts.{Proper, some-below}
 use Rattle.policy.specs.Moves.{Move, Keeps, begin, read, write, read-refused, write-refused, commit, commit-refused, abort}
 use Rattle.policy.specs.Answers.{fit-access}
 use Rattle.policy.proofs.SomeBelow.{some-below-empty}

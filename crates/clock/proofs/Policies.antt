@@ -1,11 +1,9 @@
 -- What holds of every clock policy.
-use Prim.Native.Nat.{ℕ, _+_, _<_, _≤_}
-use mathlib.Core.Path.{_≡_, refl, sym, subst}
+use Prim.Native.Nat.{ℕ, _+_, _≤_}
+use mathlib.Core.Path.{_≡_, refl}
 use mathlib.Core.Logic.{inl, inr}
 use mathlib.Core.Bool.{false}
-use mathlib.Core.List.{List, map}
 use native.Mathlib.Omega.{arith}
-use lib.Dec.{ltb}
 use Rattle.std.specs.declared.option.Option.{Option}
 use Rattle.std.specs.declared.option.Option.the-variants.{Some, None}
 use Rattle.std.proofs.shelf.Tests.{cases-bool, ltb-false, le-ltb}
@@ -15,7 +13,7 @@ use Rattle.varset.specs.declared.VarSet.{VarSet}
 use Rattle.varset.proofs.Below.{member-below}
 use Rattle.clock.specs.declared.state.Clock.{Clock}
 use Rattle.clock.specs.declared.transaction.Transaction.{Transaction}
-use Rattle.clock.specs.Held.{Held, Sound}
+use Rattle.clock.specs.Held.{Sound}
 use Rattle.clock.specs.Rows.{begun-after}
 use Rattle.clock.specs.Clocks.{held}
 use Rattle.clock.proofs.Soundness.{sound-arrays}

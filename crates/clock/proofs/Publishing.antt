@@ -1,20 +1,19 @@
 -- The rule of a granted commit: what was written is new to every other transaction.
 use Prim.Native.Nat.{ℕ, _+_, _<_, _≤_}
 use mathlib.Core.Path.{_≡_, refl, sym, subst, ap, _∙_}
-use mathlib.Core.Logic.{_⊎_, _≢_, inl, inr}
-use mathlib.Core.Bool.{Bool, true, false, not, cond, _&&_, _||_}
+use mathlib.Core.Logic.{_⊎_, inl, inr}
+use mathlib.Core.Bool.{Bool, true, false, cond, _&&_, _||_}
 use native.Mathlib.Omega.{arith}
-use lib.Dec.{ltb, eqb}
 use Rattle.std.specs.declared.option.Option.{Option}
 use Rattle.std.specs.declared.option.Option.the-variants.{Some, None}
 use Rattle.std.specs.Options.{isSome}
-use Rattle.std.proofs.shelf.Tests.{cases-bool, cases-lt, both-ways, and-parts, and-from, or-cases, or-left, or-right, or-parts, cond-both}
+use Rattle.std.proofs.shelf.Tests.{cases-bool, both-ways, and-parts, and-from, or-cases, or-left, or-right, cond-both}
 use Rattle.std.proofs.shelf.Ways.{tells}
 use Rattle.policy.specs.Limits.{variables}
 use Rattle.policy.specs.Facts.{Facts, some-below, may-commit}
-use Rattle.policy.specs.Moves.{Same-sets, Fenced, Near, Passed, Committed, Unchanged}
-use Rattle.policy.proofs.SomeBelow.{some-below-same, some-below-member, some-below-witness, some-below-mono, some-below-all}
-use Rattle.clock.specs.Held.{Held, Running, Sound, meaning, newer, reads-of, writes-of, stale}
+use Rattle.policy.specs.Moves.{Same-sets, Passed, Committed, Unchanged}
+use Rattle.policy.proofs.SomeBelow.{some-below-member, some-below-witness, some-below-mono, some-below-all}
+use Rattle.clock.specs.Held.{Held, Running, Sound, meaning, newer, writes-of}
 use Rattle.clock.specs.Steps.{with-transaction, stamped, published, with-room}
 use Rattle.clock.proofs.Renumbered.{with-room-meaning, with-room-sound}
 use Rattle.clock.proofs.Putting.{put-same, put-only, put-unchanged}

@@ -1,22 +1,19 @@
 -- A change of one task's transaction alone: the rules of begin, read, write and of an end with nothing shared.
-use Prim.Native.Nat.{ℕ, zero, suc, _+_, _<_, _≤_}
-use mathlib.Core.Path.{_≡_, refl, sym, subst, ap, fun-ext, _∙_}
-use mathlib.Core.Logic.{_⊎_, _≢_, inl, inr}
-use mathlib.Core.Bool.{Bool, true, false, not, cond, _&&_, _||_}
-use native.Mathlib.Omega.{arith}
+use Prim.Native.Nat.{ℕ}
+use mathlib.Core.Path.{_≡_, refl, sym, ap, _∙_}
+use mathlib.Core.Logic.{_≢_}
+use mathlib.Core.Bool.{true, false, _&&_}
 use lib.Dec.{ltb, eqb}
 use Rattle.std.specs.declared.option.Option.{Option}
 use Rattle.std.specs.declared.option.Option.the-variants.{Some, None}
 use Rattle.std.specs.Options.{isSome}
-use Rattle.std.proofs.shelf.Tests.{cases-bool, cases-eq, both-ways, and-parts, eq-eqb, ne-eqb, cond-true, cond-false, le-ltb, not-true}
-use Rattle.std.proofs.shelf.Ways.{tells}
-use Rattle.policy.specs.Limits.{tasks, variables}
-use Rattle.policy.specs.Facts.{Facts, some-below, may-read}
-use Rattle.policy.specs.Moves.{Only, Others, Unchanged, Begun, Has-read, Has-written, Beside, Ended, Spared, Refused}
-use Rattle.policy.specs.Answers.{fit-access}
-use Rattle.policy.proofs.SomeBelow.{some-below-same, some-below-empty}
-use Rattle.clock.specs.Held.{Held, Running, Sound, meaning, newer, reads-of, writes-of, stale}
-use Rattle.clock.specs.Steps.{with-transaction, begun, with-read, with-write}
+use Rattle.std.proofs.shelf.Tests.{both-ways, eq-eqb, ne-eqb, cond-true, cond-false, le-ltb}
+use Rattle.policy.specs.Limits.{variables}
+use Rattle.policy.specs.Facts.{some-below}
+use Rattle.policy.specs.Moves.{Only, Unchanged, Begun, Beside, Ended}
+use Rattle.policy.proofs.SomeBelow.{some-below-empty}
+use Rattle.clock.specs.Held.{Held, Running, Sound, meaning, newer, reads-of, writes-of}
+use Rattle.clock.specs.Steps.{with-transaction, begun}
 
 module _ (t : ℕ) (x : Option Running) (s : Held) where
   pub put-same : with-transaction t x s .transaction t ≡ x

@@ -1,8 +1,8 @@
 -- The list of the read versions, for any number of tasks.
 use Prim.Native.Nat.{ℕ, zero, suc, _+_, _<_, _≤_}
 use mathlib.Core.Path.{_≡_, refl, sym, subst, ap, _∙_}
-use mathlib.Core.Logic.{_⊎_, inl, inr}
-use mathlib.Core.Bool.{Bool, true, false, not, cond, _&&_, _||_}
+use mathlib.Core.Logic.{inl, inr}
+use mathlib.Core.Bool.{true}
 use mathlib.Core.List.{List, [], _∷_}
 use native.Mathlib.Omega.{arith}
 use lib.Dec.{ltb, eqb}
@@ -11,7 +11,6 @@ use lib.ListN.{length, getD}
 use Rattle.std.specs.declared.option.Option.{Option}
 use Rattle.std.specs.declared.option.Option.the-variants.{Some, None}
 use Rattle.std.proofs.shelf.Tests.{cases-eq, or-cases, eqb-true, or-left, or-right, eq-eqb, cond-true, lt-ltb}
-use Rattle.std.proofs.shelf.Ways.{tells}
 use Rattle.policy.specs.Limits.{tasks}
 use Rattle.clock.specs.declared.transaction.Transaction.{Transaction}
 use Rattle.clock.specs.Different.{among}

@@ -1,13 +1,11 @@
 -- What the arrays of a clock policy hold, read place by place.
 use Prim.Native.Nat.{ℕ, zero, suc, _<_, _≤_}
-use mathlib.Core.Path.{_≡_, refl, sym, ap, fun-ext, _∙_}
-use mathlib.Core.Bool.{Bool, true, false, cond}
+use mathlib.Core.Path.{_≡_, refl, sym, fun-ext}
 use mathlib.Core.List.{List, [], _∷_}
-use native.Mathlib.Omega.{arith}
-use lib.Dec.{ltb, eqb}
-use lib.ListN.{getD, length, set, replicate}
+use lib.Dec.{ltb}
+use lib.ListN.{getD, set, replicate}
 use Rattle.std.specs.declared.option.Option.{Option}
-use Rattle.std.specs.declared.option.Option.the-variants.{Some, None}
+use Rattle.std.specs.declared.option.Option.the-variants.{None}
 use Rattle.std.proofs.shelf.Tests.{cond-both, cond-true, lt-ltb, ltb-true, ltb-false}
 use Rattle.policy.specs.Limits.{tasks, variables}
 use Rattle.clock.specs.declared.transaction.Transaction.{Transaction}

@@ -1,18 +1,16 @@
 -- Renumbering changes no fact.
-use Prim.Native.Nat.{ℕ, zero, suc, _+_, _<_, _≤_}
+use Prim.Native.Nat.{ℕ, _≤_}
 use mathlib.Core.Path.{_≡_, refl, sym, ap, ap₂, fun-ext, _∙_}
-use mathlib.Core.Logic.{_⊎_, inl, inr}
-use mathlib.Core.Bool.{Bool, true, false, not, cond, _&&_, _||_}
-use mathlib.Core.List.{List, [], _∷_}
+use mathlib.Core.Bool.{true, false, _&&_}
+use mathlib.Core.List.{List}
 use native.Mathlib.Omega.{arith}
-use lib.Dec.{ltb, eqb}
-use lib.ListN.{length}
+use lib.Dec.{eqb}
 use Rattle.std.specs.declared.option.Option.{Option}
 use Rattle.std.specs.declared.option.Option.the-variants.{Some, None}
 use Rattle.std.specs.Options.{isSome}
 use Rattle.std.proofs.shelf.Tests.{false≢true, cond-both}
 use Rattle.policy.specs.Limits.{tasks, variables}
-use Rattle.policy.specs.Facts.{Facts, some-below}
+use Rattle.policy.specs.Facts.{some-below}
 use Rattle.clock.specs.Different.{among, different, different-below}
 use Rattle.clock.specs.Held.{Held, Running, Sound, meaning, newer, reads-of, writes-of, stale}
 use Rattle.clock.specs.Steps.{read-versions, at-version, renumbered, with-room, top}

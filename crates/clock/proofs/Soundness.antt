@@ -1,8 +1,8 @@
 -- What every clock policy holds is sound, and what is sound makes one.
-use Prim.Native.Nat.{ℕ, zero, suc, _<_, _≤_}
-use mathlib.Core.Path.{_≡_, refl, sym, ap, subst, _∙_}
-use mathlib.Core.Logic.{_⊎_, inl, inr}
-use mathlib.Core.Bool.{Bool, true, false, cond}
+use Prim.Native.Nat.{ℕ, _<_, _≤_}
+use mathlib.Core.Path.{_≡_, refl, ap, subst, _∙_}
+use mathlib.Core.Logic.{inl, inr}
+use mathlib.Core.Bool.{true, false}
 use mathlib.Core.List.{List}
 use native.Mathlib.Omega.{arith}
 use lib.Dec.{ltb}
@@ -15,7 +15,7 @@ use Rattle.std.proofs.shelf.Tests.{both-ways, false≢true, cases-lt, cond-both
 use Rattle.policy.specs.Limits.{tasks, variables}
 use Rattle.varset.proofs.Below.{member-below}
 use Rattle.clock.specs.declared.transaction.Transaction.{Transaction}
-use Rattle.clock.specs.Held.{Held, Running, Sound, reads-of, writes-of}
+use Rattle.clock.specs.Held.{Running, Sound, reads-of, writes-of}
 use Rattle.clock.specs.Rows.{row, rows, numbers, running, begun-after}
 use Rattle.clock.proofs.ReadVersions.{row-at}
 

@@ -1,7 +1,6 @@
 -- When each call has which outcome, by the facts before it.
-use Prim.Native.Nat.{ℕ}
 use mathlib.Core.Path.{_≡_}
-use mathlib.Core.Bool.{Bool, true, false}
+use mathlib.Core.Bool.{true, false}
 use Rattle.policy.specs.Facts.{Facts, may-read, may-write, may-commit}
 use Rattle.policy.specs.Answers.{fit-task, fit-access, fit-begin}
 use Rattle.policy.specs.Moves.{Move, begin, read, write, read-refused, write-refused, commit, commit-refused, abort}

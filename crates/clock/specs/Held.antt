@@ -1,8 +1,7 @@
 -- What a clock policy holds and what that means, for any number of tasks and variables.
-use Prim.Native.Nat.{ℕ, zero, suc, _<_, _≤_}
+use Prim.Native.Nat.{ℕ, _<_, _≤_}
 use mathlib.Core.Path.{_≡_}
 use mathlib.Core.Bool.{Bool, true, false, _&&_}
-use mathlib.Core.List.{List, [], _∷_}
 use lib.Dec.{ltb}
 use Rattle.std.specs.declared.option.Option.{Option}
 use Rattle.std.specs.declared.option.Option.the-variants.{Some, None}
@@ -19,6 +18,7 @@ pub record Running : Type 0 where
   -- what it has written
   pub writes : ℕ → Bool
 
+-- what a clock policy holds
 pub record Held : Type 0 where
   pub clock : ℕ
   -- of each variable: the clock of the last commit that wrote it

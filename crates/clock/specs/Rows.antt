@@ -9,11 +9,13 @@ use Rattle.std.specs.declared.option.Option.the-variants.{Some, None}
 use Rattle.policy.specs.Limits.{tasks, variables}
 use Rattle.varset.specs.Members.{member}
 use Rattle.clock.specs.declared.transaction.Transaction.{Transaction}
-use Rattle.clock.specs.Held.{Held, Running}
+use Rattle.clock.specs.Held.{Running}
 
+-- a transaction of the program
 abbrev pub running : Transaction → Running
 running x = record { read-version = x .«read_version»; reads = member (x .reads); writes = member (x .writes) }
 
+-- a row of the array: a transaction or none
 abbrev pub row : Option Transaction → Option Running
 row None = None
 row (Some x) = Some (running x)

@@ -1,9 +1,6 @@
 use Prim.Native.Nat.{_<_}
-use mathlib.Core.Path.{refl, sym, ap, subst, _∙_, _≡_}
-use mathlib.Core.Bool.{true, false}
+use mathlib.Core.Path.{sym, ap, _∙_}
 use native.Mathlib.Omega.{arith}
-use lib.ListN.{getD}
-use Rattle.std.specs.declared.option.Option.the-variants.{Some, None}
 use Rattle.std.proofs.shelf.Tests.{or-from, ne-eqb}
 use Rattle.policy.specs.Limits.{tasks}
 use Rattle.clock.specs.Different.{among}

@@ -1,10 +1,7 @@
-use Prim.Native.Nat.{_≤_}
-use mathlib.Core.Path.{_≡_, ap, _∙_}
+use mathlib.Core.Path.{ap}
 use native.Mathlib.Omega.{arith}
-use Rattle.policy.specs.Limits.{tasks}
 use Rattle.clock.specs.declared.state.Clock.{Clock}
 use Rattle.clock.specs.Held.{Held}
-use Rattle.clock.specs.Steps.{top, renumbered}
 use Rattle.clock.specs.Clocks.{held}
 use Rattle.clock.proofs.Policies.{sound}
 use Rattle.clock.proofs.Renumbered.{renumbered-clock}

@@ -9,7 +9,7 @@ use Rattle.policy.specs.Limits.{tasks, variables}
 use Rattle.clock.specs.declared.state.Clock.{Clock}
 use Rattle.clock.specs.declared.transaction.Transaction.{Transaction}
 use Rattle.clock.specs.Different.{different-below}
-use Rattle.clock.specs.Held.{Held, Sound, meaning}
+use Rattle.clock.specs.Held.{Sound, meaning}
 use Rattle.clock.specs.Steps.{renumbered, read-versions, at-version}
 use Rattle.clock.specs.Rows.{row, rows}
 use Rattle.clock.specs.Clocks.{held}

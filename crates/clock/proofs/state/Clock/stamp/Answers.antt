@@ -1,5 +1,5 @@
 use Prim.Native.Nat.{ℕ, _+_, _<_}
-use mathlib.Core.Path.{_≡_, sym, ap, subst}
+use mathlib.Core.Path.{_≡_, sym, subst}
 use mathlib.Core.Bool.{cond}
 use mathlib.Core.List.{List}
 use native.Mathlib.Omega.{arith}
@@ -9,7 +9,7 @@ use Rattle.policy.specs.Limits.{variables}
 use Rattle.varset.specs.Members.{member}
 use Rattle.varset.specs.declared.VarSet.{VarSet}
 use Rattle.clock.specs.declared.state.Clock.{Clock}
-use Rattle.clock.specs.Held.{Held, Sound}
+use Rattle.clock.specs.Held.{Sound}
 use Rattle.clock.specs.Steps.{stamped}
 use Rattle.clock.specs.Clocks.{held}
 use Rattle.clock.proofs.Arrays.{holding, stamped-arrays, stamped-sound}
