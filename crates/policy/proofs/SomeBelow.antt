@@ -1,11 +1,12 @@
 -- What `some-below` tells of a set, for any bound.
-use Prim.Native.Nat.{ℕ, zero, suc, _<_}
+use Prim.Native.Nat.{ℕ, zero, suc, _+_, _<_}
 use mathlib.Core.Path.{_≡_, refl}
 use mathlib.Core.Logic.{_⊎_, inl, inr}
 use mathlib.Core.Bool.{Bool, true, false, _||_}
+use native.Mathlib.Numerals.{add-one}
 use native.Mathlib.Omega.{arith}
 use Rattle.std.specs.Orderings.{Decides}
-use Rattle.std.proofs.shelf.Tests.{cases-bool, both-ways}
+use Rattle.std.proofs.shelf.Tests.{cases-bool, both-ways, or-from}
 use Rattle.std.proofs.shelf.Ways.{decides-below-or}
 use Rattle.policy.specs.Facts.{some-below}
 
@@ -67,3 +68,8 @@ some-below-same (suc n) s t a =
     let e : s n ≡ t n = a n (omega arith) in
     let r : some-below n s ≡ some-below n t = some-below-same n s t (λ v h. a v (omega arith)) in
     cc
+
+-- the step of a loop that has met no member yet
+pub some-below-step : (n : ℕ) (s : ℕ → Bool) → some-below n s ≡ false → s n ≡ false → some-below (n + 1) s ≡ false
+unfolding some-below
+some-below-step n s e f = rw add-one (or-from (s n) (some-below n s) f e)

@@ -2,3 +2,4 @@ pub mod Limits
 pub mod Facts
 pub mod Moves
 pub mod Answers
+pub mod Due

@@ -12,6 +12,13 @@ type Mask = u64;
 // How many variables there are.
 const WIDTH: u8 = 64;
 
+// Whether there is such a variable.
+pub fn is_variable(variable: u8) -> bool
+    ensures { λ r. ⌜ r ≡ everything variable ⌝ }
+{
+    variable < WIDTH
+}
+
 #[derive(Clone, Copy)]
 pub struct VarSet {
     mask: Mask,
@@ -33,14 +40,14 @@ impl VarSet {
     pub fn has(self, variable: u8) -> bool
         ensures { λ r. ⌜ r ≡ member self variable ⌝ }
     {
-        variable < WIDTH && (self.mask >> variable) & 1 == 1
+        is_variable(variable) && (self.mask >> variable) & 1 == 1
     }
 
     // The set and the variable, if there is such a one.
     pub fn with(self, variable: u8) -> VarSet
         ensures { λ r. ⌜ Holds r (plus (member self) variable) ⌝ }
     {
-        if variable < WIDTH {
+        if is_variable(variable) {
             VarSet {
                 mask: self.mask | (1 << variable),
             }

@@ -1,23 +1,19 @@
-use mathlib.Core.Path.{_≡_}
+use mathlib.Core.Path.{_≡_, sym, _∙_}
 use mathlib.Core.Bool.{true, false}
-use native.Mathlib.Omega.{arith}
-use lib.Dec.{ltb, eqb}
-use lib.Bits.{bitAnd}
-use Prim.Native.Nat.{_/_, _^_}
-use Rattle.std.proofs.shelf.Tests.{lt-ltb, le-ltb}
+use lib.Dec.{ltb}
 use Rattle.policy.specs.Limits.{variables}
-use Rattle.varset.specs.Members.{member, bit}
+use Rattle.varset.specs.Members.{member}
 use Rattle.varset.proofs.Masks.{bit-test}
 use Rattle.varset.proofs.VarSet.has.Needs as need
 
-pub returns-then-variable-lt-WIDTH : need.returns-then-variable-lt-WIDTH
+pub returns-then-is-variable : need.returns-then-is-variable
 unfolding member
-returns-then-variable-lt-WIDTH c =
-    let l : ltb (c .args .variable) variables ≡ true = lt-ltb (c .args .variable) variables (c .if-variable-lt-WIDTH .taken) in
+returns-then-is-variable c =
+    let l : ltb (c .args .variable) variables ≡ true = sym (c .is-variable .ensures) ∙ c .if-is-variable .taken in
     rw l (bit-test (c .args .self .mask) (c .args .variable))
 
-pub returns-else-variable-lt-WIDTH : need.returns-else-variable-lt-WIDTH
+pub returns-else-is-variable : need.returns-else-is-variable
 unfolding member
-returns-else-variable-lt-WIDTH c =
-    let l : ltb (c .args .variable) variables ≡ false = le-ltb (c .args .variable) variables (c .if-variable-lt-WIDTH .left) in
-    rw l
+returns-else-is-variable c =
+    let l : ltb (c .args .variable) variables ≡ false = sym (c .is-variable .ensures) ∙ c .if-is-variable .left in
+    rw l (c .if-is-variable .left)

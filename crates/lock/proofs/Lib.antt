@@ -1,0 +1,3 @@
+mod Apart
+mod Bars
+mod Keeps

@@ -1,0 +1,3 @@
+mod States
+mod Bars
+mod Keeps

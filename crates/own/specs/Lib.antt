@@ -1,0 +1,2 @@
+pub mod Ownership
+pub mod After

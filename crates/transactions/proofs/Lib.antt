@@ -1,0 +1,3 @@
+mod Puts
+pub mod Sound
+pub mod Others
