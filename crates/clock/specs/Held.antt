@@ -21,7 +21,7 @@ pub record Running : Type 0 where
 -- what a clock policy holds
 pub record Held : Type 0 where
   pub clock : ℕ
-  -- of each variable: the clock of the last commit that wrote it
+  -- of each variable: its version, given by the last commit that wrote it
   pub version : ℕ → ℕ
   -- of each task: its transaction, if it has one
   pub transaction : ℕ → Option Running

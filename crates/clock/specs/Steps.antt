@@ -35,6 +35,7 @@ and-read v x =
       writes = x .writes;
     }
 
+-- the same of a task that may have no transaction
 abbrev pub with-read : ℕ → Option Running → Option Running
 with-read v None = None
 with-read v (Some x) = Some (and-read v x)
@@ -43,6 +44,7 @@ with-read v (Some x) = Some (and-read v x)
 abbrev pub and-write : ℕ → Running → Running
 and-write v x = record { read-version = x .read-version; reads = x .reads; writes = plus (x .writes) v }
 
+-- the same of a task that may have no transaction
 abbrev pub with-write : ℕ → Option Running → Option Running
 with-write v None = None
 with-write v (Some x) = Some (and-write v x)

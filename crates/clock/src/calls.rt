@@ -1,16 +1,16 @@
 // TL2 as a policy.
 ghost use mathlib.Core.Bool.{false};
 ghost use Rattle.clock.specs.Held.{meaning};
-ghost use Rattle.clock.specs.Due.{Stepped};
+ghost use Rattle.clock.specs.After.{After};
 ghost use Rattle.clock.specs.Clocks.{held};
 use crate::changes::is_stale;
 use crate::state::Clock;
 use crate::state::TASKS;
-use crate::state::VARIABLES;
 use crate::transaction::Transaction;
 use policy::Granted;
 use policy::Policy;
 use policy::PolicyFault;
+use varset::is_variable;
 
 pub impl Policy for Clock as ClockPolicy {
     ghost active = { λ p. meaning (held p) .active };
@@ -29,7 +29,7 @@ pub impl Policy for Clock as ClockPolicy {
 
     ghost strict = { false };
 
-    ghost after = { λ p m q. Stepped m (held p) (held q) };
+    ghost after = { After };
 
     const STRICT: bool = false;
 
@@ -50,7 +50,7 @@ pub impl Policy for Clock as ClockPolicy {
         let Some(transaction) = self.transaction(task) else {
             return Err(PolicyFault::Unfit);
         };
-        if variable as usize >= VARIABLES {
+        if !is_variable(variable) {
             return Err(PolicyFault::Unfit);
         }
         if !transaction.writes.has(variable)
@@ -67,7 +67,7 @@ pub impl Policy for Clock as ClockPolicy {
         let Some(transaction) = self.transaction(task) else {
             return Err(PolicyFault::Unfit);
         };
-        if variable as usize >= VARIABLES {
+        if !is_variable(variable) {
             return Err(PolicyFault::Unfit);
         }
         self.set_transaction(task, Some(transaction.with_write(variable)));
@@ -106,9 +106,7 @@ pub impl Policy for Clock as ClockPolicy {
 
     fn has_written(&self, task: u8, variable: u8) -> Result<bool, PolicyFault> {
         match self.transaction(task) {
-            Some(transaction) if (variable as usize) < VARIABLES => Ok(
-                transaction.writes.has(variable),
-            ),
+            Some(transaction) if is_variable(variable) => Ok(transaction.writes.has(variable)),
             _ => Err(PolicyFault::Unfit),
         }
     }

@@ -3,7 +3,7 @@ use mathlib.Core.Path.{_≡_, sym, ap, _∙_}
 use mathlib.Core.List.{List}
 use native.Mathlib.Omega.{arith}
 use Rattle.policy.specs.Limits.{tasks}
-use Rattle.clock.specs.Different.{different-below}
+use Rattle.clock.specs.Different.{among, different-below}
 use Rattle.clock.specs.Steps.{read-versions}
 use Rattle.clock.specs.Rows.{rows}
 use Rattle.clock.proofs.Counting.{below-none, below-new, below-known, below-above, below-counts}
@@ -29,7 +29,7 @@ loop-t-again c =
           let d =
           ap (λ ns. different-below ns (c .args .bound)) e
           ∙ below-new (w .in-Some .x .«read_version») ns (c .args .bound) (omega arith)
-          (sym (w .if-not-is-read-version .ensures tt)) in
+          (sym {b = among ns (w .in-Some .x .«read_version»)} (w .if-not-is-read-version .ensures tt)) in
           (omega (arith, d), omega arith)
       | in-Some·else-from-bound w ↦
           let e = read-versions-begun (c .args .transactions .now) (c .loop-t .t) there (w .in-Some .x) (w .in-Some .is) in
@@ -39,7 +39,7 @@ loop-t-again c =
                 let k =
                 d
                 ∙ below-known (w .in-Some .x .«read_version») ns (c .args .bound)
-                (sym (w′ .if-not-is-read-version .ensures tt)) in
+                (sym {b = among ns (w .in-Some .x .«read_version»)} (w′ .if-not-is-read-version .ensures tt)) in
                 (omega (arith, k), omega arith)
             | else-from-bound·by·else-from-bound w′ ↦
                 let k = d ∙ below-above (w .in-Some .x .«read_version») ns (c .args .bound) (omega arith) in

@@ -12,4 +12,4 @@ proper-law p = proper (held p) (sound p)
 
 pub keeps-law : need.keeps-law
 keeps-law p q m a =
-    subst (λ (r : Held). Keeps false m (meaning (held p)) (meaning r)) (sym (a .step)) (keeps m (held p) (sound p) (a .due))
+    subst (λ (r : Held). Keeps false m (meaning (held p)) (meaning r)) (sym (a .step)) (keeps m (held p) (sound p) (a .call))
