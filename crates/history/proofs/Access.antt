@@ -11,7 +11,8 @@ use Rattle.policy.specs.Moves.{Only, Others}
 use Rattle.history.specs.Steps.{zeros}
 use Rattle.history.specs.Transactions.{Access, put, Transaction, Ledger, calls, note, adds, longer, gots}
 use Rattle.history.specs.Alone.{nothing-pending, pend, seen, Exact, Answered}
-use Rattle.history.specs.Law.{replay, Stood, just, earlier, Rival}
+use Rattle.history.specs.Serial.{replay}
+use Rattle.history.specs.Law.{Stood, just, earlier, Rival}
 use Rattle.history.proofs.Logic.{truth, not-both, at-same, at-other, at-elim, marked-value, marked-none, marked-off}
 use Rattle.history.proofs.Accesses.{Within, within-++, within-more, within-gots, Some-touches, exact-++, exact-gots, pend-++, pend-gots, answered-++, answered-left, answered-right, gots-answered, answered-gots, gots-touches}
 use Rattle.history.proofs.Orders.{replay-++, replay-kept}
@@ -209,14 +210,14 @@ module _ (t : ℕ) (vs : List ℕ) (a b : View) (L : Ledger) (order : List Trans
   })
 
 module _ (t v : ℕ) (x : ℤ) (a b : View) (L : Ledger) (order : List Transaction) (inv : Invariant a L order) (step : Writes t v x a b) where
-  abbrev mine-w : Active a L order t
-  mine-w = inv .active t (step .rule .was)
+  abbrev mine-written : Active a L order t
+  mine-written = inv .active t (step .rule .was)
 
-  abbrev E : List Access
-  E = mine-w .transaction .accesses
+  abbrev D-written : List Access
+  D-written = mine-written .transaction .accesses
 
   pub write-keeps : Invariant b (note (adds t (put (calls L) v x ∷ [])) (b .shared) L) order
-  write-keeps = goes-on-keeps t (put (calls L) v x ∷ []) (v ∷ []) a b L order inv mine-w (record {
+  write-keeps = goes-on-keeps t (put (calls L) v x ∷ []) (v ∷ []) a b L order inv mine-written (record {
     active = step .rule .active;
     behind = step .rule .behind;
     no-read = step .rule .bars .no-read;
@@ -224,14 +225,14 @@ module _ (t v : ℕ) (x : ℤ) (a b : View) (L : Ledger) (order : List Transacti
     only = step .rule .only;
     others = λ u ne l. beside-one (step .rule .others u ne l);
     quiet = step .quiet;
-    pending = λ w. ap (λ (p : ℕ → Option ℤ). p w) (pend-++ nothing-pending E (put (calls L) v x ∷ []))
-        ∙ at-elim (λ (o : Option ℤ). o ≡ cond (b .facts .writes t w) (some (b .pending t w)) none) (pend nothing-pending E) v (some x) w
+    pending = λ w. ap (λ (p : ℕ → Option ℤ). p w) (pend-++ nothing-pending D-written (put (calls L) v x ∷ []))
+        ∙ at-elim (λ (o : Option ℤ). o ≡ cond (b .facts .writes t w) (some (b .pending t w)) none) (pend nothing-pending D-written) v (some x) w
         (λ e. rw (e, step .rule .written, step .put))
-        (λ ne. rw (step .rule .writes w ne, step .kept w ne) (mine-w .standing .pending w));
-    reads = λ w e. let r = mine-w .standing .reads w (sym (step .rule .reads w) ∙ e) in
-        (r .0, answered-left nothing-pending E (put (calls L) v x ∷ []) w (r .0) (r .1));
-    answers = λ w y r. elim (answered-++ nothing-pending E (put (calls L) v x ∷ []) w y r) [
-      | inl h ↦ step .rule .reads w ∙ mine-w .standing .answers w y h
+        (λ ne. rw (step .rule .writes w ne, step .kept w ne) (mine-written .standing .pending w));
+    reads = λ w e. let r = mine-written .standing .reads w (sym (step .rule .reads w) ∙ e) in
+        (r .0, answered-left nothing-pending D-written (put (calls L) v x ∷ []) w (r .0) (r .1));
+    answers = λ w y r. elim (answered-++ nothing-pending D-written (put (calls L) v x ∷ []) w y r) [
+      | inl h ↦ step .rule .reads w ∙ mine-written .standing .answers w y h
       | inr h ↦ elim h [ ]
     ];
     within = λ k l. (l, tt);

@@ -57,7 +57,7 @@ answered-right p [] es v x a = a
 answered-right p (got n w y ∷ ds) es v x a = inr (answered-right p ds es v x a)
 answered-right p (put n w y ∷ ds) es v x a = answered-right (at p w (some y)) ds es v x a
 
--- every deed was done before call k
+-- every access was made before call k
 abbrev pub Within : ℕ → List Access → Type 0
 Within k [] = Unit {0}
 Within k (got n v x ∷ ds) = (n < k) × Within k ds

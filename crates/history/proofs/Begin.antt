@@ -11,7 +11,7 @@ use Rattle.policy.specs.Facts.{Facts, Touched as Taken}
 use Rattle.policy.specs.Moves.{Unchanged}
 use Rattle.history.specs.Transactions.{Transaction, Ledger, calls, note, nothing, opens, begun}
 use Rattle.history.specs.Alone.{nothing-pending, pend}
-use Rattle.history.specs.Law.{Stood, just, earlier, Touched, Rival}
+use Rattle.history.specs.Law.{Stood, just, earlier, Had-touched, Rival}
 use Rattle.history.proofs.Logic.{not-both, no-some, at-same, at-other, marked-some}
 use Rattle.history.proofs.Accesses.{answered-touches, pend-touches}
 use Rattle.history.proofs.Views.{View}
@@ -20,7 +20,7 @@ use Rattle.history.proofs.Invariant.{Standing, Active, Invariant}
 use Rattle.history.proofs.Ledgers.{Grows, rival-later, rival-grows, settled-grows, opens-grows, nothing-grows}
 use Rattle.history.proofs.Others.{unended-all, stays, keep-rival, Undisturbed, undisturbed-standing, all-active, all-idle}
 
--- what is touched is touched by an open transaction
+-- what an active task of the policy has touched, its transaction has
 pub taken-rival : {a : View} {L : Ledger} {order : List Transaction} → Invariant a L order → (t first w : ℕ) → Taken (a .facts) t w → Rival L t first (calls L) w
 taken-rival {a} {L} {order} inv t first w h = record {
   rival = U;
@@ -39,7 +39,7 @@ taken-rival {a} {L} {order} inv t first w h = record {
     s : Standing a L order (h .by) U
     s = o .standing
 
-    go : (a .facts .reads (h .by) w ≡ true) ⊎ (a .facts .writes (h .by) w ≡ true) → Touched U w (calls L)
+    go : (a .facts .reads (h .by) w ≡ true) ⊎ (a .facts .writes (h .by) w ≡ true) → Had-touched U w (calls L)
     go (inl r) = let q = s .reads w r in inl (answered-touches (calls L) nothing-pending (U .accesses) w (q .0) (s .within) (q .1))
     go (inr r) = elim (pend-touches (calls L) nothing-pending (U .accesses) w (s .within)) [
       | inl q ↦ absurd (no-some q (marked-some (pend nothing-pending (U .accesses) w) (a .facts .writes (h .by) w) (a .pending (h .by) w) (s .pending w) r))
@@ -110,18 +110,18 @@ module _ (t : ℕ) (a b : View) (L : Ledger) (order : List Transaction) (inv : I
   }
 
 module _ (a b : View) (L : Ledger) (order : List Transaction) (inv : Invariant a L order) (step : Idles a b) where
-  abbrev L₀ : Ledger
-  L₀ = note nothing (b .shared) L
+  abbrev L″ : Ledger
+  L″ = note nothing (b .shared) L
 
-  grows₀ : Grows L L₀
-  grows₀ = nothing-grows (b .shared) L
+  grows-idle : Grows L L″
+  grows-idle = nothing-grows (b .shared) L
 
   same : {A : Type 0} (k : Facts → A) → k (b .facts) ≡ k (a .facts)
   same k = ap k (step .facts)
 
-  each₀ : (u : ℕ) (U : Transaction) → a .facts .active u ≡ true → Standing a L order u U → Standing b L₀ order u U
-  each₀ u U active s =
-      undisturbed-standing grows₀ (unended-all inv) (step .shared) (stays b u (U .first) order)
+  each-idle : (u : ℕ) (U : Transaction) → a .facts .active u ≡ true → Standing a L order u U → Standing b L″ order u U
+  each-idle u U active s =
+      undisturbed-standing grows-idle (unended-all inv) (step .shared) (stays b u (U .first) order)
       (record {
         reads = λ w. same (λ f. f .reads u w);
         writes = λ w. same (λ f. f .writes u w);
@@ -133,7 +133,7 @@ module _ (a b : View) (L : Ledger) (order : List Transaction) (inv : Invariant a
       })
       s
 
-  pub idle-keeps : Invariant b L₀ order
+  pub idle-keeps : Invariant b L″ order
   idle-keeps = record {
     each-once = inv .each-once;
     exact = inv .exact;
@@ -142,7 +142,7 @@ module _ (a b : View) (L : Ledger) (order : List Transaction) (inv : Invariant a
     bounded = λ U m. let k = inv .bounded U m in omega arith;
     latest = refl;
     active = λ u h. let l = sym (same (λ f. f .active u)) ∙ h in let o = inv .active u l in
-        record { transaction = o .transaction; is = o .is; standing = each₀ u (o .transaction) l (o .standing) };
+        record { transaction = o .transaction; is = o .is; standing = each-idle u (o .transaction) l (o .standing) };
     idle = λ u h. inv .idle u (sym (same (λ f. f .active u)) ∙ h);
-    settled = λ U m. settled-grows grows₀ (unended-all inv) (inv .settled U m);
+    settled = λ U m. settled-grows grows-idle (unended-all inv) (inv .settled U m);
   }

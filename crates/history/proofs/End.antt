@@ -9,9 +9,10 @@ use mathlib.Core.Option.{Option, none, some}
 use lib.IntN.{ℤ}
 use Rattle.policy.specs.Facts.{Facts}
 use Rattle.policy.specs.Moves.{Only, Others, Spared, Ended}
-use Rattle.history.specs.Transactions.{Fate, aborted, barred, Transaction, Ledger, calls, note, ends, over-with}
+use Rattle.history.specs.Transactions.{Fate, aborted, policy-refused, Transaction, Ledger, calls, note, ends, over-with}
 use Rattle.history.specs.Alone.{nothing-pending, pend, Shared-answer}
-use Rattle.history.specs.Law.{if-committed, all-committed, earlier, Listed, Touched, Rival, Has-rival}
+use Rattle.history.specs.Serial.{if-committed, all-committed}
+use Rattle.history.specs.Law.{earlier, Listed, Had-touched, Rival, Has-rival}
 use Rattle.history.proofs.Logic.{truth, not-both, at-same, at-other}
 use Rattle.history.proofs.Accesses.{exact-answered, pend-touches}
 use Rattle.history.proofs.Views.{View, Quiet}
@@ -64,7 +65,7 @@ pub record Ends-with (t : ℕ) (z : Fate) (vs : List ℕ) (a b : View) (L : Ledg
   pub quiet : Quiet t a b
   pub unshared : (U : Transaction) (Us : List Transaction) → if-committed z U Us ≡ Us
   pub listed : (w : ℕ) → List·Memᴰ w vs → Listed z w
-  pub because : (q : Option ℕ) (ps : List ℕ) → z ≡ barred q ps → Because L t T q
+  pub because : (q : Option ℕ) (ps : List ℕ) → z ≡ policy-refused q ps → Because L t T q
 
 module _ (t : ℕ) (z : Fate) (vs : List ℕ) (a b : View) (L : Ledger) (order : List Transaction) (inv : Invariant a L order) (o : Active a L order t)
     (h : Ends-with t z vs a b L (o .transaction)) where
@@ -102,9 +103,9 @@ module _ (t : ℕ) (z : Fate) (vs : List ℕ) (a b : View) (L : Ledger) (order :
     };
   }
 
-  settleds : (U : Transaction) → List·Memᴰ U (T′ ∷ L .ended) → Settled L′ U
-  settleds U (List·Memᴰ·head e) = subst (λ (X : Transaction). Settled L′ X) (sym e) settled-t
-  settleds U (List·Memᴰ·tail m) = settled-grows grows (unended-all inv) (inv .settled U m)
+  all-settled : (U : Transaction) → List·Memᴰ U (T′ ∷ L .ended) → Settled L′ U
+  all-settled U (List·Memᴰ·head e) = subst (λ (X : Transaction). Settled L′ X) (sym e) settled-t
+  all-settled U (List·Memᴰ·tail m) = settled-grows grows (unended-all inv) (inv .settled U m)
 
   rival-t : (u first w : ℕ) → u ≢ t → first < calls L → List·Memᴰ w vs → Rival L′ u first (calls L′) w
   rival-t u first w ne l m = record {
@@ -143,11 +144,11 @@ module _ (t : ℕ) (z : Fate) (vs : List ℕ) (a b : View) (L : Ledger) (order :
     latest = refl;
     active = all-active b L′ order t inv (h .only) others each (λ l. absurd (not-both l (h .gone)));
     idle = all-idle b L′ order t inv (h .only) others (λ l. at-same (L .current) t none);
-    settled = settleds;
+    settled = all-settled;
   })
 
--- which variable a refusal hsettleds
-same-asked : {q q′ : Option ℕ} {ps ps′ : List ℕ} → barred q ps ≡ barred q′ ps′ → q ≡ q′
+-- which variable a refusal holds
+same-asked : {q q′ : Option ℕ} {ps ps′ : List ℕ} → policy-refused q ps ≡ policy-refused q′ ps′ → q ≡ q′
 same-asked e = cc
 
 -- one behind has a rival at something that it read
@@ -168,16 +169,16 @@ module _ (t : ℕ) (a b : View) (L : Ledger) (order : List Transaction) (inv : I
 
   -- the reason of a refusal at v
   asked : (o : Active a L order t) (v : ℕ) (vs : List ℕ) (q : Option ℕ) (ps : List ℕ) → (a .facts .behind t ≡ false → Rival L t (o .transaction .first) (calls L) v)
-      → barred (some v) vs ≡ barred q ps → Because L t (o .transaction) q
+      → policy-refused (some v) vs ≡ policy-refused q ps → Because L t (o .transaction) q
   asked o v vs q ps r e = elim (truth (a .facts .behind t)) [
     | inl h ↦ because-behind q (o .standing .behind h)
     | inr h ↦ record { variable = v; wanted = inl (sym (same-asked e)); rival = r h }
   ]
 
-  pub bar-read-keeps : (v : ℕ) (vs : List ℕ) → Bars-read t v vs a b → Invariant b (note (ends t (barred (some v) vs)) (b .shared) L) order
+  pub bar-read-keeps : (v : ℕ) (vs : List ℕ) → Bars-read t v vs a b → Invariant b (note (ends t (policy-refused (some v) vs)) (b .shared) L) order
   bar-read-keeps v vs step =
       let o : Active a L order t = inv .active t (step .earlier .was) in
-      ends-keeps t (barred (some v) vs) vs a b L order inv o (record {
+      ends-keeps t (policy-refused (some v) vs) vs a b L order inv o (record {
         gone = step .rule .gone;
         only = λ u ne. step .rule .only u ne ∙ step .earlier .only u ne;
         others = λ u ne l. beside-spared (step .earlier .others u ne l) (step .rule .others u ne (step .earlier .only u ne ∙ l));
@@ -187,10 +188,10 @@ module _ (t : ℕ) (a b : View) (L : Ledger) (order : List Transaction) (inv : I
         because = λ q ps e. asked o v vs q ps (λ f. o .standing .up-to-date f .no-read v (sym (step .earlier .no-read v) ∙ step .barred)) e;
       })
 
-  pub bar-write-keeps : (v : ℕ) → Bars-write t v a b → Invariant b (note (ends t (barred (some v) [])) (b .shared) L) order
+  pub bar-write-keeps : (v : ℕ) → Bars-write t v a b → Invariant b (note (ends t (policy-refused (some v) [])) (b .shared) L) order
   bar-write-keeps v step =
       let o : Active a L order t = inv .active t (step .rule .was) in
-      ends-keeps t (barred (some v) []) [] a b L order inv o (record {
+      ends-keeps t (policy-refused (some v) []) [] a b L order inv o (record {
         gone = step .rule .gone;
         only = step .rule .only;
         others = λ u ne l. spared (step .rule .others u ne l);
@@ -200,10 +201,10 @@ module _ (t : ℕ) (a b : View) (L : Ledger) (order : List Transaction) (inv : I
         because = λ q ps e. asked o v [] q ps (λ f. o .standing .up-to-date f .no-write v (step .barred)) e;
       })
 
-  pub bar-commit-keeps : Bars-commit t a b → Invariant b (note (ends t (barred none [])) (b .shared) L) order
+  pub bar-commit-keeps : Bars-commit t a b → Invariant b (note (ends t (policy-refused none [])) (b .shared) L) order
   bar-commit-keeps step =
       let o : Active a L order t = inv .active t (step .rule .was) in
-      ends-keeps t (barred none []) [] a b L order inv o (record {
+      ends-keeps t (policy-refused none []) [] a b L order inv o (record {
         gone = step .rule .gone;
         only = step .rule .only;
         others = λ u ne l. spared (step .rule .others u ne l);

@@ -11,9 +11,10 @@ use mathlib.Core.List.{List, [], _∷_, _++_, List·Memᴰ, List·Permᴰ}
 use mathlib.Core.Option.{Option, none, some}
 use lib.IntN.{ℤ}
 use Rattle.history.specs.Steps.{zeros}
-use Rattle.history.specs.Transactions.{Fate, unended, barred, Transaction, Ledger, calls}
+use Rattle.history.specs.Transactions.{Fate, unended, policy-refused, Transaction, Ledger, calls}
 use Rattle.history.specs.Alone.{nothing-pending, pend, Exact, Shared-answer}
-use Rattle.history.specs.Law.{all-committed, replay, All-exact, In-order, Stood, One-moment, Rival, Has-rival}
+use Rattle.history.specs.Serial.{all-committed, replay, All-exact, In-order}
+use Rattle.history.specs.Law.{Stood, One-moment, Rival, Has-rival}
 use Rattle.history.proofs.Views.{View}
 use Rattle.history.proofs.Accesses.{Within}
 
@@ -81,7 +82,7 @@ pub record Standing (a : View) (L : Ledger) (order : List Transaction) (t : ℕ)
 pub record Settled (L : Ledger) (T : Transaction) : Type 0 where
   pub begun : T .first < calls L
   pub moment : One-moment L T
-  pub rival : (asked : Option ℕ) (passed : List ℕ) → T .fate ≡ barred asked passed → Has-rival L T asked
+  pub rival : (asked : Option ℕ) (passed : List ℕ) → T .fate ≡ policy-refused asked passed → Has-rival L T asked
 
 -- The newest moment is the shared values now.
 abbrev pub Latest : List (ℕ → ℤ) → (ℕ → ℤ) → Type 0

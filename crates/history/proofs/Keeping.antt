@@ -1,24 +1,22 @@
 -- Every call keeps the invariant: each kind of call, by the check that decided its answer.
-use Prim.Native.Nat.{ℕ, zero, suc, _<_}
-use native.Mathlib.Omega.{arith}
-use native.Mathlib.Decide.{ℕ-discrete}
+use Prim.Native.Nat.{ℕ}
 use mathlib.Core.Path.{_≡_, refl, sym, _∙_, ap, subst}
-use mathlib.Core.Bool.{Bool, true, false, not, _&&_, _||_}
+use mathlib.Core.Bool.{Bool, true, false}
 use mathlib.Core.Logic.{_⊎_, inl, inr, _≢_}
 use mathlib.Core.List.{List, [], _∷_, map}
 use mathlib.Core.Option.{Option, none, some}
 use lib.IntN.{ℤ}
 use lib.ListN.{take}
-use Rattle.policy.specs.Limits.{variables}
-use Rattle.policy.specs.Facts.{Facts, some-below, may-read, may-write, may-commit, Proper}
+use Rattle.policy.specs.Facts.{Facts, may-read, may-write, may-commit, Proper}
 use Rattle.policy.specs.Moves.{Move, Begun, Has-written, Ended, Refused, Committed, Keeps, read-refused, write-refused, commit-refused}
 use Rattle.policy.specs.Moves.{begin as begins, read as reads-variable, write as writes-variable, commit as commits, abort as aborts}
 use Rattle.history.specs.Calls.{Call, begin, read, write, collect, snapshot, commit, abort, task, single, listed, Barred, read-barred, write-barred, commit-barred, by-policy, Answer, done, refused}
 use Rattle.history.specs.Answers.{Stage, idle, active, broken, untimely, barred, granted, must-not-be-idle}
 use Rattle.history.specs.Steps.{State, Chain, Reads-for, Step, sees, abort-moves}
-use Rattle.history.specs.Transactions.{Addition, adds, ends, Transaction, Ledger, aborted, barred as barred-fate, calls, gots, note, addition}
+use Rattle.history.specs.Transactions.{Addition, adds, ends, Transaction, Ledger, aborted, policy-refused, calls, gots, note, addition}
 use Rattle.history.specs.Runs.{in-transaction, Sound}
-use Rattle.history.proofs.Logic.{truth, not-both, no-some, at-same, at-other, neither-true, both-true, not-true, not-false}
+use Rattle.history.proofs.Logic.{not-both, no-some, at-same, at-other, not-false}
+use Rattle.history.proofs.Rules.{commit-silent, commit-behind, read-bar}
 use Rattle.history.proofs.Views.{View, view, sight, Quiet}
 use Rattle.history.proofs.GrantedReads.{Read-all, made-reads}
 use Rattle.history.proofs.Effects.{Reads, Bars-read}
@@ -30,40 +28,6 @@ use Rattle.history.proofs.Commit.{commit-keeps}
 use Rattle.history.proofs.End.{abort-keeps, bar-read-keeps, bar-write-keeps, bar-commit-keeps}
 use Rattle.history.proofs.Snapshot.{snap-keeps, bar-snap-keeps}
 use Rattle.history.proofs.Outcomes.{is-active, the-bar, the-place, Unasked, wrong-unasked, untimely-unasked, one-move, last-alone, unasked-policy, all-pending, unasked-pending, unasked-shared, by-answer}
-
--- a set of which nothing is below n has nothing below n
-pub none-below : (n : ℕ) (s : ℕ → Bool) → some-below n s ≡ false → (v : ℕ) → v < n → s v ≡ false
-unfolding some-below
-none-below zero s h v l = absurd (omega arith)
-none-below (suc n) s h v l = go (none-below n s) (ℕ-discrete v n) (neither-true (s n) (some-below n s) h)
-  where
-    go : (some-below n s ≡ false → (w : ℕ) → w < n → s w ≡ false) → Dec (v ≡ n) → (s n ≡ false) × (some-below n s ≡ false) → s v ≡ false
-    go below (yes e) k = ap s e ∙ k .0
-    go below (no ne) k = below (k .1) v (omega arith)
-
--- a task that is behind and may commit has written nothing
-pub commit-silent : (strict : Bool) (f : Facts) (t : ℕ) → Proper f → may-commit strict f t ≡ true → f .behind t ≡ true → (w : ℕ) → f .writes t w ≡ false
-commit-silent strict f t proper may behind w = go (truth (f .writes t w))
-  where
-    some-written : Bool
-    some-written = strict || some-below variables (f .writes t)
-
-    none-written : (x : Bool) → not (x && some-written) ≡ true → x ≡ true → some-written ≡ false
-    none-written true h e = not-true some-written h
-    none-written false h e = absurd (not-both e refl)
-
-    go : (f .writes t w ≡ true) ⊎ (f .writes t w ≡ false) → f .writes t w ≡ false
-    go (inl e) = none-below variables (f .writes t)
-        (neither-true strict (some-below variables (f .writes t)) (none-written (f .behind t) may behind) .1) w (proper .written-below t w e)
-    go (inr e) = e
-
--- a task that may not commit is behind
-pub commit-behind : (strict : Bool) (f : Facts) (t : ℕ) → may-commit strict f t ≡ false → f .behind t ≡ true
-commit-behind strict f t may = both-true (f .behind t) (strict || some-below variables (f .writes t)) (not-false (f .behind t && (strict || some-below variables (f .writes t))) may) .0
-
--- a task that may not read is barred
-pub read-bar : (f : Facts) (t v : ℕ) → may-read f t v ≡ false → f .no-read t v ≡ true
-read-bar f t v may = not-false (f .no-read t v) (neither-true (f .writes t v) (not (f .no-read t v)) may .1)
 
 module _ {P : Type 0} (facts : P → Facts) (after : P → Move → P → Type 0) (strict : Bool)
     (keeps : (p q : P) (m : Move) → after p m q → Keeps strict m (facts p) (facts q)) where
@@ -136,7 +100,7 @@ module _ {P : Type 0} (facts : P → Facts) (after : P → Move → P → Type 0
 
     -- and then the read of v was refused
     reads-barred : (v : ℕ) → Chain after (read-refused t v ∷ []) between (b .policy)
-        → Invariant (view facts b) (note (ends t (barred-fate (some v) vs)) (b .shared) L) order
+        → Invariant (view facts b) (note (ends t (policy-refused (some v) vs)) (b .shared) L) order
     reads-barred v c =
         let h = ended-by-read facts after strict keeps t v between (b .policy) c in
         bar-read-keeps t (view facts a) (view facts b) L order inv v vs (record {

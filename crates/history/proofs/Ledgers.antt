@@ -11,7 +11,7 @@ use lib.ListN.{length}
 use Rattle.history.specs.Update.{at}
 use Rattle.history.specs.Transactions.{Access, got, put, Fate, unended, Transaction, Ledger, calls, Addition, nothing, opens, adds, ends, whole, note, begun, longer, over-with, grown, closed}
 use Rattle.history.specs.Alone.{Touches}
-use Rattle.history.specs.Law.{Stood, just, earlier, One-moment, Touched, Listed, Rival, Has-rival}
+use Rattle.history.specs.Law.{Stood, just, earlier, One-moment, Had-touched, Listed, Rival, Has-rival}
 use Rattle.history.proofs.Logic.{at-same, at-other, at-elim, no-some}
 use Rattle.history.proofs.Invariant.{Settled}
 
@@ -24,7 +24,7 @@ pub record Follows (L L′ : Ledger) (t : ℕ) (T : Transaction) : Type 0 where
   pub next : Transaction
   pub task : next .task ≡ T .task
   pub first : next .first ≡ T .first
-  pub touched : (v k : ℕ) → Touched T v k → Touched next v k
+  pub touched : (v k : ℕ) → Had-touched T v k → Had-touched next v k
   pub lasts : (L′ .current t ≡ some next) ⊎ (List·Memᴰ next (L′ .ended) × (calls L ≤ next .last))
 
 pub record Grows (L L′ : Ledger) : Type 0 where
@@ -40,7 +40,7 @@ pub touches-later : (k l v : ℕ) (d : Access) → k ≤ l → Touches k v d →
 touches-later k l v (got n w y) h r = (r .0, omega arith)
 touches-later k l v (put n w y) h r = (r .0, omega arith)
 
-pub touched-later : (T : Transaction) (v k l : ℕ) → k ≤ l → Touched T v k → Touched T v l
+pub touched-later : (T : Transaction) (v k l : ℕ) → k ≤ l → Had-touched T v k → Had-touched T v l
 touched-later T v k l h (inl r) = inl (r .0, r .1, touches-later k l v (r .0) h (r .2))
 touched-later T v k l h (inr r) = inr (r .0, omega arith)
 

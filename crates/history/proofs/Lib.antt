@@ -1,6 +1,7 @@
 pub mod Logic
 pub mod Accesses
 pub mod Orders
+pub mod Rules
 pub mod Views
 pub mod Invariant
 pub mod Ledgers

@@ -8,23 +8,23 @@ use mathlib.Core.Option.{Option, none, some, Option·getD}
 use lib.IntN.{ℤ}
 use Rattle.history.specs.Transactions.{Transaction}
 use Rattle.history.specs.Alone.{nothing-pending, pend, seen, Exact, run-alone}
-use Rattle.history.specs.Law.{replay, All-exact, In-order}
+use Rattle.history.specs.Serial.{replay, All-exact, In-order}
 
 pub replay-++ : (s : ℕ → ℤ) (xs ys : List Transaction) → replay s (xs ++ ys) ≡ replay (replay s xs) ys
 replay-++ s [] ys = refl
 replay-++ s (T ∷ xs) ys = replay-++ (run-alone s T) xs ys
 
-pub exact-row-++ : (s : ℕ → ℤ) (xs ys : List Transaction) → All-exact s xs → All-exact (replay s xs) ys → All-exact s (xs ++ ys)
-exact-row-++ s [] ys h k = k
-exact-row-++ s (T ∷ xs) ys h k = (h .0, exact-row-++ (run-alone s T) xs ys (h .1) k)
+pub exact-order-++ : (s : ℕ → ℤ) (xs ys : List Transaction) → All-exact s xs → All-exact (replay s xs) ys → All-exact s (xs ++ ys)
+exact-order-++ s [] ys h k = k
+exact-order-++ s (T ∷ xs) ys h k = (h .0, exact-order-++ (run-alone s T) xs ys (h .1) k)
 
-pub exact-row-left : (s : ℕ → ℤ) (xs ys : List Transaction) → All-exact s (xs ++ ys) → All-exact s xs
-exact-row-left s [] ys h = tt
-exact-row-left s (T ∷ xs) ys h = (h .0, exact-row-left (run-alone s T) xs ys (h .1))
+pub exact-order-left : (s : ℕ → ℤ) (xs ys : List Transaction) → All-exact s (xs ++ ys) → All-exact s xs
+exact-order-left s [] ys h = tt
+exact-order-left s (T ∷ xs) ys h = (h .0, exact-order-left (run-alone s T) xs ys (h .1))
 
-pub exact-row-right : (s : ℕ → ℤ) (xs ys : List Transaction) → All-exact s (xs ++ ys) → All-exact (replay s xs) ys
-exact-row-right s [] ys h = h
-exact-row-right s (T ∷ xs) ys h = exact-row-right (run-alone s T) xs ys (h .1)
+pub exact-order-right : (s : ℕ → ℤ) (xs ys : List Transaction) → All-exact s (xs ++ ys) → All-exact (replay s xs) ys
+exact-order-right s [] ys h = h
+exact-order-right s (T ∷ xs) ys h = exact-order-right (run-alone s T) xs ys (h .1)
 
 -- T writes nothing
 abbrev pub Silent : Transaction → Type 0
@@ -33,7 +33,7 @@ Silent T = (v : ℕ) → pend nothing-pending (T .accesses) v ≡ none
 pub alone-silent : (s : ℕ → ℤ) (T : Transaction) → Silent T → run-alone s T ≡ s
 alone-silent s T h = fun-ext (λ v. ap (λ (o : Option ℤ). Option·getD o (s v)) (h v))
 
--- what none of a Ts writes keeps its value
+-- what none of them writes keeps its value
 pub replay-kept : (s : ℕ → ℤ) (Ts : List Transaction) (v : ℕ) → ((T : Transaction) → List·Memᴰ T Ts → pend nothing-pending (T .accesses) v ≡ none) → replay s Ts v ≡ s v
 replay-kept s [] v h = refl
 replay-kept s (T ∷ Ts) v h =
@@ -47,8 +47,8 @@ module _ (s : ℕ → ℤ) (xs : List Transaction) (T : Transaction) (ys : List 
 
   pub exact-insert : Exact (replay s xs) nothing-pending (T .accesses) → All-exact s (xs ++ ys) → All-exact s (xs ++ (T ∷ ys))
   exact-insert e h =
-      exact-row-++ s xs (T ∷ ys) (exact-row-left s xs ys h)
-      (e, subst (λ (r : ℕ → ℤ). All-exact r ys) (sym (alone-silent (replay s xs) T silent)) (exact-row-right s xs ys h))
+      exact-order-++ s xs (T ∷ ys) (exact-order-left s xs ys h)
+      (e, subst (λ (r : ℕ → ℤ). All-exact r ys) (sym (alone-silent (replay s xs) T silent)) (exact-order-right s xs ys h))
 
 pub mem-++ : (U : Transaction) (xs ys : List Transaction) → List·Memᴰ U (xs ++ ys) → List·Memᴰ U xs ⊎ List·Memᴰ U ys
 mem-++ U [] ys m = inr m
@@ -72,7 +72,7 @@ order-insert (S ∷ xs) T ys f g h =
     go U (inl e) k = f S (List·Memᴰ·head refl) (subst (λ (X : Transaction). X .last < S .first) e k)
     go U (inr m) k = h .0 U m k
 
--- two ways to cut one row
+-- two ways to cut one list
 pub data Cuts (xs ys cs ds : List Transaction) : Type 0 where
   earlier : (ms : List Transaction) → cs ≡ xs ++ ms → ys ≡ ms ++ ds → Cuts xs ys cs ds
   later : (ms : List Transaction) → xs ≡ cs ++ ms → ds ≡ ms ++ ys → Cuts xs ys cs ds

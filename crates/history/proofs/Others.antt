@@ -5,16 +5,18 @@ use native.Mathlib.Omega.{arith}
 use mathlib.Core.Path.{_≡_, refl, sym, _∙_, ap, subst, fun-ext}
 use mathlib.Core.Bool.{Bool, true, false, cond}
 use mathlib.Core.Logic.{_⊎_, inl, inr, _≢_}
-use mathlib.Core.List.{List, [], _∷_, _++_, List·Memᴰ}
+use mathlib.Core.List.{List, [], _∷_, _++_, append-assoc, List·Memᴰ, List·Memᴰ·head, List·Memᴰ·tail}
 use mathlib.Core.Option.{Option, none, some}
 use lib.IntN.{ℤ}
 use Rattle.policy.specs.Moves.{Only}
 use Rattle.history.specs.Steps.{zeros}
 use Rattle.history.specs.Transactions.{Fate, unended, Transaction, Ledger, calls}
 use Rattle.history.specs.Alone.{nothing-pending, pend, Exact}
-use Rattle.history.specs.Law.{replay, Stood, Rival}
+use Rattle.history.specs.Serial.{replay}
+use Rattle.history.specs.Law.{Stood, Rival}
 use Rattle.history.proofs.Logic.{truth, no-some, contraposed}
 use Rattle.history.proofs.Accesses.{within-more}
+use Rattle.history.proofs.Orders.{mem-++}
 use Rattle.history.proofs.Views.{View}
 use Rattle.history.proofs.Invariant.{Fences, Behind, Up-to-date, Held, Standing, Active, Invariant}
 use Rattle.history.proofs.Ledgers.{Grows, All-unended, rival-grows, rival-later}
@@ -43,6 +45,22 @@ All-shift b u first order order′ = (pre post : List Transaction) → order ≡
 
 pub stays : (b : View) (u first : ℕ) (order : List Transaction) → All-shift b u first order order
 stays b u first order pre post e = record { pre′ = pre; post′ = post; cut = e; same = refl; newer = λ U m. inl m }
+
+-- one more that stands last, which writes nothing that u may read and ended no earlier than u began
+pub append-shift : (b : View) (u first : ℕ) (order : List Transaction) (T : Transaction) → Fences b u T → (T .last < first → ⊥)
+    → All-shift b u first order (order ++ (T ∷ []))
+append-shift b u first order T fences recent pre post e = record {
+  pre′ = pre;
+  post′ = post ++ (T ∷ []);
+  cut = ap (λ (r : List Transaction). r ++ (T ∷ [])) e ∙ append-assoc pre post (T ∷ []);
+  same = refl;
+  newer = λ U m. go U (mem-++ U post (T ∷ []) m);
+}
+  where
+    go : (U : Transaction) → List·Memᴰ U post ⊎ List·Memᴰ U (T ∷ []) → List·Memᴰ U post ⊎ (Fences b u U × (U .last < first → ⊥))
+    go U (inl m) = inl m
+    go U (inr (List·Memᴰ·head q)) = inr (subst (λ (X : Transaction). Fences b u X × (X .last < first → ⊥)) (sym q) (fences, recent))
+    go U (inr (List·Memᴰ·tail m)) = elim m [ ]
 
 pub keep-rival : {L L′ : Ledger} {u first v : ℕ} → Grows L L′ → All-unended L → first < calls L → Rival L u first (calls L) v → Rival L′ u first (calls L′) v
 keep-rival {L} {L′} g all h r = let k = g .longer in rival-later (calls L′) (omega arith) (rival-grows g all (omega arith) r)

@@ -11,10 +11,10 @@ use Rattle.policy.specs.Facts.{Facts, Proper}
 use Rattle.policy.specs.Moves.{Move, Keeps}
 use Rattle.history.specs.Calls.{Call, Answer}
 use Rattle.history.specs.Steps.{State, Step}
-use Rattle.history.specs.Transactions.{Fate, unended, barred, Transaction, Ledger, History, new-ledger, read-off}
+use Rattle.history.specs.Transactions.{Fate, unended, policy-refused, Transaction, Ledger, History, new-ledger, read-off}
 use Rattle.history.specs.Alone.{nothing-pending}
 use Rattle.history.specs.Law.{One-moment, Has-rival, Known, Lawful}
-use Rattle.history.specs.Runs.{Sound, New, Run, made, then, Law-stands}
+use Rattle.history.specs.Runs.{Overlaps, Unrefused-alone, Sound, New, Leads, none-yet, then, Law-stands, Never-refused-alone, Always-sound}
 use Rattle.history.proofs.Logic.{truth, not-both, no-some}
 use Rattle.history.proofs.Accesses.{exact-answered}
 use Rattle.history.proofs.Views.{View, view}
@@ -33,7 +33,7 @@ held-moment {L} {T} h = record {
   agree = λ v x r. exact-answered (h .values) nothing-pending (T .accesses) v x (h .exact) r;
 }
 
-unended-unbarred : {asked : Option ℕ} {passed : List ℕ} → unended ≡ barred asked passed → ⊥
+unended-unbarred : {asked : Option ℕ} {passed : List ℕ} → unended ≡ policy-refused asked passed → ⊥
 unended-unbarred e = let z : _≡_ {A = ℕ} 0 1 = cc in omega arith
 
 pub invariant-lawful : (a : View) (h : History) (order : List Transaction) → Invariant a (read-off h) order → Lawful h (a .shared)
@@ -61,6 +61,12 @@ invariant-lawful a h order inv = record {
         subst (λ (X : Transaction). One-moment (read-off h) X) q (held-moment (o .standing .held))
     current-moment t T e (inr l) = absurd (no-some (inv .idle t l) e)
 
+-- the rival of a refused transaction overlaps it
+pub lawful-alone : (h : History) (now : ℕ → ℤ) → Lawful h now → Unrefused-alone h
+lawful-alone h now l T asked passed k alone e =
+    let r = l .rivals T asked passed k e .rival in
+    alone (r .rival) (record { other = r .other; began = let j = r .began in omega arith; lasts = r .lasts })
+
 module _ {P : Type 0} (facts : P → Facts) (after : P → Move → P → Type 0) (strict : Bool)
     (keeps : (p q : P) (m : Move) → after p m q → Keeps strict m (facts p) (facts q)) (proper : (p : P) → Proper (facts p)) where
   new-invariant : {a : State P} → New facts a → Invariant (view facts a) new-ledger []
@@ -82,16 +88,18 @@ module _ {P : Type 0} (facts : P → Facts) (after : P → Move → P → Type 0
     invariant : Invariant (view facts a) (read-off h) order
     sound : Sound facts a
 
-  run-reaches : {a : State P} {h : History} → Run facts after strict a h → Reached a h
-  run-reaches (made n) = record { order = []; invariant = new-invariant n; sound = new-sound facts n }
-  run-reaches (then {a = a} {b = b} {h = h} c r run s) =
-      let g : Reached a h = run-reaches run in
-      let k = step-keeps facts after strict keeps proper a b (read-off h) (g .order) (g .invariant) (g .sound) c r s in
+  run-reaches : {a b : State P} {h : History} → New facts a → Leads facts after strict a b h → Reached b h
+  run-reaches n none-yet = record { order = []; invariant = new-invariant n; sound = new-sound facts n }
+  run-reaches n (then {b = b} {d = d} {h = h} c r run s) =
+      let g : Reached b h = run-reaches n run in
+      let k = step-keeps facts after strict keeps proper b d (read-off h) (g .order) (g .invariant) (g .sound) c r s in
       record { order = k .0; invariant = k .1; sound = step-sound facts after strict keeps proper s (g .sound) }
 
   pub law : Law-stands facts after strict
-  law a h run = let g : Reached a h = run-reaches run in invariant-lawful (view facts a) h (g .order) (g .invariant)
+  law a b h n run = let g : Reached b h = run-reaches n run in invariant-lawful (view facts b) h (g .order) (g .invariant)
 
-  -- every state that a run reaches is sound
-  pub runs-sound : {a : State P} {h : History} → Run facts after strict a h → Sound facts a
-  runs-sound run = run-reaches run .sound
+  pub always-sound : Always-sound facts after strict
+  always-sound a b h n run = run-reaches n run .sound
+
+  pub never-refused-alone : Never-refused-alone facts after strict
+  never-refused-alone a b h n run = lawful-alone h (b .shared) (law a b h n run)

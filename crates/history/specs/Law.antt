@@ -2,39 +2,14 @@
 use Prim.Native.Nat.{ℕ, _<_, _≤_}
 use mathlib.Core.Path.{_≡_}
 use mathlib.Core.Logic.{_⊎_, _≢_}
-use mathlib.Core.List.{List, [], _∷_, List·Memᴰ, List·Permᴰ}
-use mathlib.Core.Option.{Option, none, some}
+use mathlib.Core.List.{List, _∷_, List·Memᴰ, List·Permᴰ}
+use mathlib.Core.Option.{Option, some}
 use lib.IntN.{ℤ}
 use lib.ListN.{length}
 use Rattle.history.specs.Steps.{zeros}
-use Rattle.history.specs.Transactions.{Access, Fate, unended, committed, aborted, barred, Transaction, Ledger, History, read-off}
-use Rattle.history.specs.Alone.{nothing-pending, Exact, Shared-answer, Touches, Unwritten, run-alone}
-
-abbrev pub if-committed : Fate → Transaction → List Transaction → List Transaction
-if-committed unended T Ts = Ts
-if-committed committed T Ts = T ∷ Ts
-if-committed aborted T Ts = Ts
-if-committed (barred asked passed) T Ts = Ts
-
--- the committed ones of some transactions
-abbrev pub all-committed : List Transaction → List Transaction
-all-committed [] = []
-all-committed (T ∷ Ts) = if-committed (T .fate) T (all-committed Ts)
-
--- the shared values after some transactions, each run alone, one after another
-abbrev pub replay : (ℕ → ℤ) → List Transaction → ℕ → ℤ
-replay s [] = s
-replay s (T ∷ Ts) = replay (run-alone s T) Ts
-
--- run so, every read in them gives the value that it was answered
-abbrev pub All-exact : (ℕ → ℤ) → List Transaction → Type 0
-All-exact s [] = Unit {0}
-All-exact s (T ∷ Ts) = Exact s nothing-pending (T .accesses) × All-exact (run-alone s T) Ts
-
--- none stands after one that began when it had ended
-abbrev pub In-order : List Transaction → Type 0
-In-order [] = Unit {0}
-In-order (T ∷ Ts) = ((U : Transaction) → List·Memᴰ U Ts → U .last < T .first → ⊥) × In-order Ts
+use Rattle.history.specs.Transactions.{Access, Fate, unended, committed, aborted, policy-refused, Transaction, Ledger, History, read-off}
+use Rattle.history.specs.Alone.{Shared-answer, Touches, Unwritten}
+use Rattle.history.specs.Serial.{all-committed, replay, All-exact, In-order}
 
 -- all committed transactions stand in one serial order, each once, that starts from zeros and ends in the values now shared
 pub record Serial-order (L : Ledger) (now : ℕ → ℤ) : Type 0 where
@@ -63,14 +38,14 @@ abbrev pub Listed : Fate → ℕ → Type 0
 Listed unended v = ⊥
 Listed committed v = ⊥
 Listed aborted v = ⊥
-Listed (barred asked passed) v = List·Memᴰ v passed
+Listed (policy-refused asked passed) v = List·Memᴰ v passed
 
-abbrev pub Passed : Transaction → ℕ → Type 0
-Passed T v = Listed (T .fate) v × Unwritten T v
+abbrev pub Counts-as-read : Transaction → ℕ → Type 0
+Counts-as-read T v = Listed (T .fate) v × Unwritten T v
 
 -- T had read or written v before call k
-abbrev pub Touched : Transaction → ℕ → ℕ → Type 0
-Touched T v k = ((d : Access) × List·Memᴰ d (T .accesses) × Touches k v d) ⊎ (Passed T v × (T .last < k))
+abbrev pub Had-touched : Transaction → ℕ → ℕ → Type 0
+Had-touched T v k = ((d : Access) × List·Memᴰ d (T .accesses) × Touches k v d) ⊎ (Counts-as-read T v × (T .last < k))
 
 -- U is one that ended in call i or later, or that is unended
 abbrev pub Lasts : Ledger → Transaction → ℕ → Type 0
@@ -82,11 +57,11 @@ pub record Rival (L : Ledger) (t i k v : ℕ) : Type 0 where
   pub other : rival .task ≢ t
   pub began : rival .first < k
   pub lasts : Lasts L rival i
-  pub touched : Touched rival v k
+  pub touched : Had-touched rival v k
 
 -- v is what T was asking for, or T had read it
 abbrev pub Wanted : Transaction → Option ℕ → ℕ → Type 0
-Wanted T asked v = (asked ≡ some v) ⊎ (((x : ℤ) × Shared-answer T v x) ⊎ Passed T v)
+Wanted T asked v = (asked ≡ some v) ⊎ (((x : ℤ) × Shared-answer T v x) ⊎ Counts-as-read T v)
 
 -- by its refusal, T had a rival for what it wanted or had read
 pub record Has-rival (L : Ledger) (T : Transaction) (asked : Option ℕ) : Type 0 where
@@ -102,5 +77,5 @@ Known L T = List·Memᴰ T (L .ended) ⊎ ((t : ℕ) × (L .current t ≡ some T
 pub record Lawful (h : History) (now : ℕ → ℤ) : Type 0 where
   pub serial-order : Serial-order (read-off h) now
   pub one-moment : (T : Transaction) → Known (read-off h) T → One-moment (read-off h) T
-  pub rivals : (T : Transaction) (asked : Option ℕ) (passed : List ℕ) → Known (read-off h) T → T .fate ≡ barred asked passed
+  pub rivals : (T : Transaction) (asked : Option ℕ) (passed : List ℕ) → Known (read-off h) T → T .fate ≡ policy-refused asked passed
       → Has-rival (read-off h) T asked

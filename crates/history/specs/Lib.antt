@@ -4,5 +4,6 @@ pub mod Answers
 pub mod Steps
 pub mod Transactions
 pub mod Alone
+pub mod Serial
 pub mod Law
 pub mod Runs

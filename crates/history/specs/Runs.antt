@@ -1,7 +1,8 @@
 -- Runs of a table over any policy, and what the law says of them.
-use Prim.Native.Nat.{ℕ}
+use Prim.Native.Nat.{ℕ, _≤_}
 use mathlib.Core.Path.{_≡_}
 use mathlib.Core.Bool.{Bool, true, false}
+use mathlib.Core.Logic.{_≢_}
 use mathlib.Core.List.{List, [], _∷_}
 use mathlib.Core.Option.{Option}
 use lib.IntN.{ℤ, pos}
@@ -10,13 +11,26 @@ use Rattle.policy.specs.Moves.{Move}
 use Rattle.history.specs.Calls.{Call, Answer}
 use Rattle.history.specs.Answers.{Stage, idle, active, broken}
 use Rattle.history.specs.Steps.{State, Step}
-use Rattle.history.specs.Transactions.{Entry, History}
-use Rattle.history.specs.Law.{Lawful}
+use Rattle.history.specs.Transactions.{Fate, policy-refused, Transaction, Ledger, Entry, History, read-off}
+use Rattle.history.specs.Law.{Lasts, Known, Lawful}
 
+-- a task at this stage has a transaction
 abbrev pub in-transaction : Stage → Bool
 in-transaction idle = false
 in-transaction active = true
 in-transaction broken = false
+
+-- U, of another task, was open during T's life
+pub record Overlaps (L : Ledger) (U T : Transaction) : Type 0 where
+  pub other : U .task ≢ T .task
+  pub began : U .first ≤ T .last
+  pub lasts : Lasts L U (T .first)
+
+-- the policy never refuses a transaction that overlaps no other
+abbrev pub Unrefused-alone : History → Type 0
+Unrefused-alone h =
+    (T : Transaction) (asked : Option ℕ) (passed : List ℕ) → Known (read-off h) T
+    → ((U : Transaction) → Overlaps (read-off h) U T → ⊥) → T .fate ≡ policy-refused asked passed → ⊥
 
 module _ {P : Type 0} (facts : P → Facts) where
   -- stages and policy agree: a task is active exactly if the policy has it active, and only what it has written is pending
@@ -32,12 +46,20 @@ module _ {P : Type 0} (facts : P → Facts) where
     pub shared : (v : ℕ) → a .shared v ≡ pos 0
 
   module _ (after : P → Move → P → Type 0) (strict : Bool) where
-    -- the state and the history that a list of calls can lead to from a new table
-    pub data Run : State P → History → Type 0 where
-      made : {a : State P} → New a → Run a []
-      then : {a b : State P} {h : History} (c : Call) (r : Answer) → Run a h → Step facts after strict c a r b
-          → Run b (record { call = c; answer = r; shared = b .shared } ∷ h)
+    -- a list of calls can lead from a to another state, with this history
+    pub data Leads (a : State P) : State P → History → Type 0 where
+      none-yet : Leads a a []
+      then : {b d : State P} {h : History} (c : Call) (r : Answer) → Leads a b h → Step facts after strict c b r d
+          → Leads a d (record { call = c; answer = r; shared = d .shared } ∷ h)
 
-    -- every run keeps the law
+    -- every run of a new table keeps the law
     abbrev pub Law-stands : Type 0
-    Law-stands = (a : State P) (h : History) → Run a h → Lawful h (a .shared)
+    Law-stands = (a b : State P) (h : History) → New a → Leads a b h → Lawful h (b .shared)
+
+    -- in every run of a new table, no transaction is refused that overlaps no other
+    abbrev pub Never-refused-alone : Type 0
+    Never-refused-alone = (a b : State P) (h : History) → New a → Leads a b h → Unrefused-alone h
+
+    -- every state that a run of a new table reaches is sound
+    abbrev pub Always-sound : Type 0
+    Always-sound = (a b : State P) (h : History) → New a → Leads a b h → Sound b

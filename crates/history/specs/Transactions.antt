@@ -25,7 +25,7 @@ pub data Access : Type 0 where
 -- how a transaction ended; one that the policy refused holds the variable asked for, and what a refused collect had passed
 pub data Fate : Type 0 where
   unended committed aborted : Fate
-  barred : Option ℕ → List ℕ → Fate
+  policy-refused : Option ℕ → List ℕ → Fate
 
 -- a transaction: its task, the number of its begin and of the last call added to it or ending it, its accesses in order
 pub record Transaction : Type 0 where
@@ -69,9 +69,9 @@ replied (refused why) = []
 
 -- the end by a refusal of the policy
 abbrev pub end-by : Barred → List ℕ → Fate
-end-by (read-barred place v) vs = barred (some v) (before place vs)
-end-by (write-barred v) vs = barred (some v) []
-end-by commit-barred vs = barred none []
+end-by (read-barred place v) vs = policy-refused (some v) (before place vs)
+end-by (write-barred v) vs = policy-refused (some v) []
+end-by commit-barred vs = policy-refused none []
 
 -- what call n adds, by its answer
 abbrev pub addition : ℕ → Call → Answer → Addition
