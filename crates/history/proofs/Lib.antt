@@ -18,3 +18,5 @@ pub mod Keeping
 pub mod OwnTask
 pub mod Soundness
 pub mod Stands
+pub mod Refutations
+pub mod ExampleRun

@@ -2,7 +2,7 @@
 use Prim.Native.Nat.{ℕ}
 use native.Mathlib.Decide.{ℕ-discrete}
 use native.Mathlib.Omega.{arith}
-use mathlib.Core.Path.{_≡_, refl, subst}
+use mathlib.Core.Path.{_≡_, refl, sym, subst}
 use mathlib.Core.Bool.{Bool, true, false, not, cond, _||_, _&&_}
 use mathlib.Core.Logic.{_⊎_, inl, inr, _≢_}
 use mathlib.Core.Option.{Option, none, some, Option·getD}
@@ -47,18 +47,21 @@ is-true : (b : Bool) → T b → b ≡ true
 is-true true h = refl
 is-true false h = elim h [ ]
 
-eqb-same : (k : ℕ) → eqb k k ≡ true
-eqb-same k = is-true (eqb k k) (eqb-refl k)
+eqb-refl-true : (k : ℕ) → eqb k k ≡ true
+eqb-refl-true k = is-true (eqb k k) (eqb-refl k)
 
-eqb-other : (i k : ℕ) → i ≢ k → eqb i k ≡ false
+pub eqb-same : (i k : ℕ) → eqb i k ≡ true → i ≡ k
+eqb-same i k e = eqb→eq i k (subst T (sym e) tt)
+
+pub eqb-other : (i k : ℕ) → i ≢ k → eqb i k ≡ false
 eqb-other i k h = go (truth (eqb i k))
   where
     go : (eqb i k ≡ true) ⊎ (eqb i k ≡ false) → eqb i k ≡ false
-    go (inl e) = absurd (h (eqb→eq i k (subst T (mathlib.Core.Path.sym e) tt)))
+    go (inl e) = absurd (h (eqb-same i k e))
     go (inr e) = e
 
 pub at-same {ℓ} : {A : Type ℓ} (f : ℕ → A) (k : ℕ) (y : A) → at f k y k ≡ y
-at-same f k y = rw (eqb-same k)
+at-same f k y = rw (eqb-refl-true k)
 
 pub at-other {ℓ} : {A : Type ℓ} (f : ℕ → A) (k : ℕ) (y : A) (i : ℕ) → i ≢ k → at f k y i ≡ f i
 at-other f k y i h = rw (eqb-other i k h)
@@ -67,8 +70,8 @@ pub at-elim {ℓ κ} : {A : Type ℓ} (P : A → Type κ) (f : ℕ → A) (k : �
 at-elim P f k y i a b = go (ℕ-discrete i k)
   where
     go : Dec (i ≡ k) → P (at f k y i)
-    go (yes e) = subst P (mathlib.Core.Path.sym (subst (λ (j : ℕ). at f k y j ≡ y) (mathlib.Core.Path.sym e) (at-same f k y))) (a e)
-    go (no ne) = subst P (mathlib.Core.Path.sym (at-other f k y i ne)) (b ne)
+    go (yes e) = subst P (sym (subst (λ (j : ℕ). at f k y j ≡ y) (sym e) (at-same f k y))) (a e)
+    go (no ne) = subst P (sym (at-other f k y i ne)) (b ne)
 
 -- an option that is there exactly if a test passes
 pub marked-value {ℓ} : {A : Type ℓ} (o : Option A) (w : Bool) (p s : A) → o ≡ cond w (some p) none → Option·getD o s ≡ cond w p s

@@ -14,7 +14,7 @@ use Rattle.history.specs.Steps.{State, Step}
 use Rattle.history.specs.Transactions.{Fate, unended, policy-refused, Transaction, Ledger, History, new-ledger, read-off}
 use Rattle.history.specs.Alone.{nothing-pending}
 use Rattle.history.specs.Law.{One-moment, Has-rival, Known, Lawful}
-use Rattle.history.specs.Runs.{Overlaps, Unrefused-alone, Sound, New, Leads, none-yet, then, Law-stands, Never-refused-alone, Always-sound}
+use Rattle.history.specs.Runs.{Overlaps, Unrefused-alone, Sound, New, Leads, none-yet, then, Law-stands, Always-sound}
 use Rattle.history.proofs.Logic.{truth, not-both, no-some}
 use Rattle.history.proofs.Accesses.{exact-answered}
 use Rattle.history.proofs.Views.{View, view}
@@ -100,6 +100,3 @@ module _ {P : Type 0} (facts : P → Facts) (after : P → Move → P → Type 0
 
   pub always-sound : Always-sound facts after strict
   always-sound a b h n run = run-reaches n run .sound
-
-  pub never-refused-alone : Never-refused-alone facts after strict
-  never-refused-alone a b h n run = lawful-alone h (b .shared) (law a b h n run)

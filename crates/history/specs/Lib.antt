@@ -7,3 +7,5 @@ pub mod Alone
 pub mod Serial
 pub mod Law
 pub mod Runs
+pub mod Refuted
+pub mod Example
