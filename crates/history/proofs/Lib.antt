@@ -18,5 +18,7 @@ pub mod Keeping
 pub mod OwnTask
 pub mod Soundness
 pub mod Stands
+pub mod Building
 pub mod Refutations
+pub mod ExamplePolicy
 pub mod ExampleRun
