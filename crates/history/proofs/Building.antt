@@ -1,25 +1,36 @@
 -- Steps built from what a table knows of its call.
-use Prim.Native.Nat.{ℕ, zero, suc, _+_}
+use Prim.Native.Nat.{ℕ, zero, suc, _+_, _<_, _≤_}
 use native.Mathlib.Omega.{arith}
 use native.Mathlib.Nat.{add-zero, add-suc}
 use mathlib.Core.Path.{_≡_, refl, sym, _∙_, ap, subst}
 use mathlib.Core.Bool.{Bool, true, false, not, cond, _||_}
-use mathlib.Core.Logic.{_≢_}
+use mathlib.Core.Logic.{_⊎_, inl, inr, _≢_}
 use mathlib.Core.List.{List, [], _∷_, _++_, map}
 use mathlib.Core.Option.{Option, none, some}
 use lib.IntN.{ℤ}
 use lib.ListN.{length}
-use lib.Dec.{ltb}
+use lib.Dec.{T, ltb, lt→ltb, ltb→lt}
 use Rattle.policy.specs.Limits.{variables}
 use Rattle.policy.specs.Facts.{Facts, may-read, may-commit}
 use Rattle.policy.specs.Moves.{Move, Begun}
 use Rattle.policy.specs.Moves.{read as reads-variable}
-use Rattle.history.specs.Calls.{Call, task, Place, listed, no-variable, read-barred, Answer}
-use Rattle.history.specs.Answers.{first-wrong, first-barred}
+use Rattle.history.specs.Calls.{Call, begin, read, write, collect, snapshot, commit, abort, task, listed, Wrong, no-variable, Untimely, Barred, read-barred, sent-wrongly, at-wrong-time, by-policy, Answer, refused}
+use Rattle.history.specs.Answers.{Stage, first-wrong, first-barred, wrong, untimely, barred, granted, checked}
 use Rattle.history.specs.Steps.{State, Chain, Reads-for, none-made, Step, answer, sees, first-moves, granted-reads, last-moves, stage-after, pending-after, shared-after}
-use Rattle.history.proofs.Logic.{no-some}
+use Rattle.history.proofs.Logic.{truth, is-true, no-some}
 use Rattle.history.proofs.GrantedReads.{Read-all}
-use Rattle.history.proofs.Outcomes.{Unasked}
+use Rattle.history.proofs.Outcomes.{Unasked, wrong-unasked, untimely-unasked}
+
+-- the order of two numbers, as a test
+pub below : (m n : ℕ) → m < n → ltb m n ≡ true
+below m n h = is-true (ltb m n) (lt→ltb m n h)
+
+pub not-below : (m n : ℕ) → n ≤ m → ltb m n ≡ false
+not-below m n h = go (truth (ltb m n))
+  where
+    go : (ltb m n ≡ true) ⊎ (ltb m n ≡ false) → ltb m n ≡ false
+    go (inl e) = absurd (let k : m < n = ltb→lt m n (subst T (sym e) tt) in omega arith)
+    go (inr e) = e
 
 -- a chain of moves, and one more
 pub chain-more : {P : Type 0} (after : P → Move → P → Type 0) (ms : List Move) (m : Move) (p q r : P) → Chain after ms p q → after q m r
@@ -125,3 +136,42 @@ module _ {P : Type 0} (facts : P → Facts) (after : P → Move → P → Type 0
     other-stages = stages;
     other-pending = pendings;
   }
+
+-- the answer by the check that decides it
+module _ {P : Type 0} (facts : P → Facts) (strict : Bool) (c : Call) (a : State P) (p : P) (count : ℕ) where
+  pub answers-wrong : (x : Wrong) → wrong c ≡ some x → refused (sent-wrongly x) ≡ answer facts strict c a p count
+  answers-wrong x w = sym (ap (λ (o : Option Wrong). checked o (untimely c (a .stage (task c))) (barred strict (facts p) c) (granted (sees facts c a p) count c)) w)
+
+  pub answers-untimely : (x : Untimely) → wrong c ≡ none → untimely c (a .stage (task c)) ≡ some x → refused (at-wrong-time x) ≡ answer facts strict c a p count
+  answers-untimely x w y = sym (λ i. checked (w i) (y i) (barred strict (facts p) c) (granted (sees facts c a p) count c))
+
+  pub answers-barred : (x : Barred) → wrong c ≡ none → untimely c (a .stage (task c)) ≡ none → barred strict (facts p) c ≡ some x
+      → refused (by-policy x) ≡ answer facts strict c a p count
+  answers-barred x w y z = sym (λ i. checked (w i) (y i) (z i) (granted (sees facts c a p) count c))
+
+  pub answers-granted : wrong c ≡ none → untimely c (a .stage (task c)) ≡ none → barred strict (facts p) c ≡ none
+      → granted (sees facts c a p) count c ≡ answer facts strict c a p count
+  answers-granted w y z = sym (λ i. checked (w i) (y i) (z i) (granted (sees facts c a p) count c))
+
+-- a call that was sent wrongly changes nothing
+pub wrong-step : {P : Type 0} (facts : P → Facts) (after : P → Move → P → Type 0) (strict : Bool) (c : Call) (a : State P) (x : Wrong) → wrong c ≡ some x
+    → Step facts after strict c a (refused (sent-wrongly x)) a
+wrong-step facts after strict c a x w =
+    unasked-step facts after strict c a (refused (sent-wrongly x)) (wrong-unasked c (a .stage (task c)) x) (answers-wrong facts strict c a (a .policy) 0 x w)
+      (sym (wrong-stays c x (a .stage (task c))))
+  where
+    wrong-stays : (c : Call) (x : Wrong) (s : Stage) → stage-after c (refused (sent-wrongly x)) s ≡ s
+    wrong-stays (begin t) x s = refl
+    wrong-stays (read t v) x s = refl
+    wrong-stays (write t v y) x s = refl
+    wrong-stays (collect t vs room) x s = refl
+    wrong-stays (snapshot t vs room) x s = refl
+    wrong-stays (commit t) x s = refl
+    wrong-stays (abort t) x s = refl
+
+-- a call at the wrong time changes nothing, unless it is the commit of a broken task
+pub untimely-step : {P : Type 0} (facts : P → Facts) (after : P → Move → P → Type 0) (strict : Bool) (c : Call) (a : State P) (x : Untimely)
+    → wrong c ≡ none → untimely c (a .stage (task c)) ≡ some x → a .stage (task c) ≡ stage-after c (refused (at-wrong-time x)) (a .stage (task c))
+    → Step facts after strict c a (refused (at-wrong-time x)) a
+untimely-step facts after strict c a x w y stays =
+    unasked-step facts after strict c a (refused (at-wrong-time x)) (untimely-unasked c (a .stage (task c)) x y) (answers-untimely facts strict c a (a .policy) 0 x w y) stays

@@ -19,6 +19,7 @@ pub mod OwnTask
 pub mod Soundness
 pub mod Stands
 pub mod Building
+pub mod Asking
 pub mod Refutations
 pub mod ExamplePolicy
 pub mod ExampleRun

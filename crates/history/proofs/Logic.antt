@@ -43,7 +43,7 @@ pub not-false : (x : Bool) → not x ≡ false → x ≡ true
 not-false true h = refl
 not-false false h = absurd (not-both refl h)
 
-is-true : (b : Bool) → T b → b ≡ true
+pub is-true : (b : Bool) → T b → b ≡ true
 is-true true h = refl
 is-true false h = elim h [ ]
 

@@ -52,6 +52,14 @@ beside-more p q = record {
   writes = λ u ne l v. q .writes u ne (p .active u ne ∙ l) v ∙ p .writes u ne l v;
 }
 
+-- so the write sets of all other tasks stay as they are
+pub same-writes : {t : ℕ} {f g : Facts} → Proper f → Proper g → Beside t f g → (u : ℕ) → u ≢ t → (v : ℕ) → g .writes u v ≡ f .writes u v
+same-writes {t} {f} {g} pf pg h u ne v = go (truth (f .active u))
+  where
+    go : (f .active u ≡ true) ⊎ (f .active u ≡ false) → g .writes u v ≡ f .writes u v
+    go (inl l) = h .writes u ne l v
+    go (inr l) = pg .no-writes u v (h .active u ne ∙ l) ∙ sym (pf .no-writes u v l)
+
 -- whatever holds of each case holds of the case that an answer picks
 in-each-case : {A : Type 0} (Q : A → Type 0) (r : Answer) (ok : A) (bar : Barred → A) (un : A) → Q ok → ((x : Barred) → Q (bar x)) → Q un → Q (in-case r ok bar un)
 in-each-case Q done ok bar un f g h = f
