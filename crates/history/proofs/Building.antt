@@ -158,7 +158,7 @@ pub wrong-step : {P : Type 0} (facts : P → Facts) (after : P → Move → P �
     → Step facts after strict c a (refused (sent-wrongly x)) a
 wrong-step facts after strict c a x w =
     unasked-step facts after strict c a (refused (sent-wrongly x)) (wrong-unasked c (a .stage (task c)) x) (answers-wrong facts strict c a (a .policy) 0 x w)
-      (sym (wrong-stays c x (a .stage (task c))))
+    (sym (wrong-stays c x (a .stage (task c))))
   where
     wrong-stays : (c : Call) (x : Wrong) (s : Stage) → stage-after c (refused (sent-wrongly x)) s ≡ s
     wrong-stays (begin t) x s = refl

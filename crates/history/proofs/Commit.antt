@@ -17,7 +17,7 @@ use Rattle.history.specs.Law.{Stood, just, earlier, One-moment, Rival}
 use Rattle.history.proofs.Logic.{truth, not-both, no-some, contraposed, at-same, at-other, marked-value, marked-none, marked-some}
 use Rattle.history.proofs.Accesses.{pend-touches, exact-agree, exact-answered}
 use Rattle.history.proofs.Orders.{replay-++, exact-order-++, replay-insert, exact-insert, Silent, mem-++, mem-skip, order-insert, Cuts, earlier as cut-earlier, later as cut-later, cuts}
-use Rattle.history.proofs.Rules.{silent-behind}
+use Rattle.history.proofs.Rules.{silent-behind, bars-kept, bars-gained}
 use Rattle.history.proofs.Views.{View, sight}
 use Rattle.history.proofs.Effects.{Commits}
 use Rattle.history.proofs.Invariant.{Fences, Behind, Up-to-date, Standing, Settled, Latest, Active, Invariant}
@@ -91,7 +91,7 @@ module _ (strict : Bool) (t : ℕ) (a b : View) (L : Ledger) (order : List Trans
 
   -- what T wrote is fenced off from one now behind
   fences-t : (u : ℕ) → Passed t (a .facts) (b .facts) u → b .facts .behind u ≡ true → Fences b u T′
-  fences-t u p l v e = unpended v (contraposed (a .facts .writes t v) (b .facts .no-read u v) (p .fenced l .gains v) e)
+  fences-t u p l v e = unpended v (contraposed (a .facts .writes t v) (b .facts .no-read u v) (bars-gained p l v) e)
 
   -- The commit of a task that isn't behind: T stands last.
   module _ (prompt : a .facts .behind t ≡ false) where
@@ -158,7 +158,7 @@ module _ (strict : Bool) (t : ℕ) (a b : View) (L : Ledger) (order : List Trans
         let p : Passed t (a .facts) (b .facts) u = step .rule .others u ne active in
         keep-standing grows (unended-all inv) (p .sets .reads) (p .sets .writes) (step .pending u ne) (still-up-to-date u U ne p s)
         (λ l. elim (truth (a .facts .behind u)) [
-          | inl h ↦ keep-behind grows (unended-all inv) (s .begun) (p .fenced l .kept) (append-shift b u (U .first) order T′ (fences-t u p l) (λ k. omega (arith, s .begun))) (s .behind h)
+          | inl h ↦ keep-behind grows (unended-all inv) (s .begun) (bars-kept p l) (append-shift b u (U .first) order T′ (fences-t u p l) (λ k. omega (arith, s .begun))) (s .behind h)
           | inr h ↦ put-behind u U ne p s l h
         ])
         s
@@ -237,7 +237,7 @@ module _ (strict : Bool) (t : ℕ) (a b : View) (L : Ledger) (order : List Trans
           writes = p .sets .writes;
           pending = step .pending u ne;
           behind = silent-behind p unwritten;
-          no-read-kept = λ l. p .fenced (p .stays-behind l) .kept;
+          no-read-kept = λ l. bars-kept p (p .stays-behind l);
           no-read-new = λ l w e. elim (p .near l .no-read w e) [ inl h ↦ inl h | inr h ↦ absurd (not-both h (unwritten w)) ];
           no-write-new = λ l w e. elim (p .near l .no-write w e) [ inl h ↦ inl h | inr h ↦ absurd (not-both h (unwritten w)) ];
         })

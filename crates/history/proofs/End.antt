@@ -15,6 +15,7 @@ use Rattle.history.specs.Serial.{if-committed, all-committed}
 use Rattle.history.specs.Law.{earlier, Listed, Had-touched, Rival, Has-rival}
 use Rattle.history.proofs.Logic.{truth, not-both, at-same, at-other}
 use Rattle.history.proofs.Accesses.{exact-answered, pend-touches}
+use Rattle.history.proofs.Rules.{bars-spared}
 use Rattle.history.proofs.Views.{View, Quiet}
 use Rattle.history.proofs.GrantedReads.{Beside-all}
 use Rattle.history.proofs.Effects.{Aborts, Bars-read, Bars-write, Bars-commit}
@@ -36,7 +37,7 @@ spared s = record {
   reads = s .sets .reads;
   writes = s .sets .writes;
   behind = s .behind;
-  no-read-kept = s .fenced;
+  no-read-kept = bars-spared s;
   no-read-new = λ w e. inl (s .no-read w e);
   no-write-new = λ w e. inl (s .no-write w e);
 }
@@ -46,7 +47,7 @@ beside-spared p s = record {
   reads = λ w. s .sets .reads w ∙ p .reads w;
   writes = λ w. s .sets .writes w ∙ p .writes w;
   behind = s .behind ∙ p .behind;
-  no-read-kept = λ l w e. s .fenced (p .behind ∙ l) w (p .no-read-kept w e);
+  no-read-kept = λ l w e. bars-spared s (p .behind ∙ l) w (p .no-read-kept w e);
   no-read-new = λ w e. p .no-read-new w (s .no-read w e);
   no-write-new = λ w e. p .no-write-new w (s .no-write w e);
 }

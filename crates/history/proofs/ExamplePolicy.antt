@@ -4,7 +4,7 @@ use mathlib.Core.Path.{_≡_, refl, sym, subst}
 use mathlib.Core.Bool.{Bool, true, false, _&&_}
 use mathlib.Core.Logic.{_≢_}
 use lib.Dec.{eqb, lit<}
-use Rattle.policy.specs.Limits.{variables}
+use Rattle.policy.specs.Limits.{tasks, variables}
 use Rattle.policy.specs.Facts.{Proper}
 use Rattle.policy.specs.Moves.{Only, Others, Unchanged, Beside, Spared, Passed, Begun, Has-read, Has-written, Committed, Refused}
 use Rattle.history.specs.Example.{Pair, pair-facts}
@@ -44,7 +44,7 @@ pair-proper p = record {
     may-read-all (suc zero) v e = rw e
     may-read-all (suc (suc t)) v e = refl
 
-    task : (t : ℕ) → pair-facts p .active t ≡ true → t < 8
+    task : (t : ℕ) → pair-facts p .active t ≡ true → t < tasks
     task zero e = lit< tt
     task (suc zero) e = lit< tt
     task (suc (suc t)) e = absurd (not-both e refl)

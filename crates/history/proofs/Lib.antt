@@ -7,6 +7,7 @@ pub mod Invariant
 pub mod Ledgers
 pub mod Others
 pub mod GrantedReads
+pub mod Counting
 pub mod Effects
 pub mod Begin
 pub mod Commit

@@ -47,7 +47,7 @@ pub is-true : (b : Bool) → T b → b ≡ true
 is-true true h = refl
 is-true false h = elim h [ ]
 
-eqb-refl-true : (k : ℕ) → eqb k k ≡ true
+pub eqb-refl-true : (k : ℕ) → eqb k k ≡ true
 eqb-refl-true k = is-true (eqb k k) (eqb-refl k)
 
 pub eqb-same : (i k : ℕ) → eqb i k ≡ true → i ≡ k

@@ -16,7 +16,7 @@ use Rattle.history.specs.Law.{just, Rival}
 use Rattle.history.proofs.Logic.{truth, not-both}
 use Rattle.history.proofs.Accesses.{pend-gots, exact-gots, exact-answered, gots-touches}
 use Rattle.history.proofs.Orders.{replay-++, exact-order-++, Silent, alone-silent, mem-++, order-insert}
-use Rattle.history.proofs.Rules.{silent-behind}
+use Rattle.history.proofs.Rules.{silent-behind, bars-kept}
 use Rattle.history.proofs.Views.{View}
 use Rattle.history.proofs.GrantedReads.{Beside-all}
 use Rattle.history.proofs.Effects.{Snaps, Bars-snap}
@@ -69,7 +69,7 @@ module _ (strict : Bool) (t : ℕ) (vs : List ℕ) (see : ℕ → ℤ) (a b : Vi
     writes = λ w. q .sets .writes w ∙ p .writes w ∙ s .sets .writes w;
     pending = step .quiet .pending u ne;
     behind = silent-behind q unwritten ∙ p .behind ∙ s .behind;
-    no-read-kept = λ k w e. q .fenced (q .stays-behind (p .behind ∙ s .behind ∙ k)) .kept w (p .no-read-kept w (s .bars .no-read w ∙ e));
+    no-read-kept = λ k w e. bars-kept q (q .stays-behind (p .behind ∙ s .behind ∙ k)) w (p .no-read-kept w (s .bars .no-read w ∙ e));
     no-read-new = λ k w e. elim (q .near k .no-read w e) [
       | inl d ↦ elim (p .no-read-new w d) [ inl c ↦ inl (sym (s .bars .no-read w) ∙ c) | inr m ↦ inr (rival-s u first w ne h m) ]
       | inr d ↦ absurd (not-both d (unwritten w))

@@ -14,7 +14,7 @@ use Rattle.history.specs.Steps.{State, Step}
 use Rattle.history.specs.Transactions.{Fate, unended, policy-refused, Transaction, Ledger, History, new-ledger, read-off}
 use Rattle.history.specs.Alone.{nothing-pending}
 use Rattle.history.specs.Law.{One-moment, Has-rival, Known, Lawful}
-use Rattle.history.specs.Runs.{Overlaps, Unrefused-alone, Sound, New, Leads, none-yet, then, Law-stands, Always-sound}
+use Rattle.history.specs.Runs.{Overlaps, Unrefused-alone, Sound, New, Leads, none-yet, then, Law-stands, Stays-sound}
 use Rattle.history.proofs.Logic.{truth, not-both, no-some}
 use Rattle.history.proofs.Accesses.{exact-answered}
 use Rattle.history.proofs.Views.{View, view}
@@ -98,5 +98,5 @@ module _ {P : Type 0} (facts : P → Facts) (after : P → Move → P → Type 0
   pub law : Law-stands facts after strict
   law a b h n run = let g : Reached b h = run-reaches n run in invariant-lawful (view facts b) h (g .order) (g .invariant)
 
-  pub always-sound : Always-sound facts after strict
-  always-sound a b h n run = run-reaches n run .sound
+  pub stays-sound : Stays-sound facts after strict
+  stays-sound = record { new = λ a n. new-sound facts n; step = λ c r a b s sound. step-sound facts after strict keeps proper s sound }
