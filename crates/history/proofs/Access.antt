@@ -42,9 +42,11 @@ pub record Goes-on (t : ℕ) (ds : List Access) (vs : List ℕ) (a b : View) (L 
 
 module _ (t : ℕ) (ds : List Access) (vs : List ℕ) (a b : View) (L : Ledger) (order : List Transaction) (inv : Invariant a L order) (o : Active a L order t)
     (h : Goes-on t ds vs a b L order (o .transaction)) where
+  -- the transaction before the access
   abbrev T : Transaction
   T = o .transaction
 
+  -- and after it
   abbrev T′ : Transaction
   T′ = longer ds (calls L) T
 
@@ -161,6 +163,7 @@ module _ (t : ℕ) (vs : List ℕ) (a b : View) (L : Ledger) (order : List Trans
   abbrev mine : Active a L order t
   mine = inv .active t (step .rule .was)
 
+  -- the accesses so far, and the new ones
   abbrev D : List Access
   D = mine .transaction .accesses
 

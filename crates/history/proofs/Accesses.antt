@@ -73,6 +73,7 @@ within-more k l [] g h = tt
 within-more k l (got n v x ∷ ds) g h = (omega arith, within-more k l ds g (h .1))
 within-more k l (put n v x ∷ ds) g h = (omega arith, within-more k l ds g (h .1))
 
+-- one of the accesses read or wrote v before call k
 abbrev pub Some-touches : ℕ → ℕ → List Access → Type 0
 Some-touches k v ds = (d : Access) × List·Memᴰ d ds × Touches k v d
 

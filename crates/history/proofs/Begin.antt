@@ -47,6 +47,7 @@ taken-rival {a} {L} {order} inv t first w h = record {
     ]
 
 module _ (t : ℕ) (a b : View) (L : Ledger) (order : List Transaction) (inv : Invariant a L order) (step : Begins t a b) where
+  -- the new transaction
   abbrev N : Transaction
   N = begun t (calls L)
 

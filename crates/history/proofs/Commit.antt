@@ -33,9 +33,11 @@ module _ (strict : Bool) (t : ℕ) (a b : View) (L : Ledger) (order : List Trans
   abbrev mine : Active a L order t
   mine = inv .active t (step .rule .was)
 
+  -- the transaction before the commit
   abbrev T : Transaction
   T = mine .transaction
 
+  -- and committed
   abbrev T′ : Transaction
   T′ = over-with committed (calls L) T
 

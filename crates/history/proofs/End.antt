@@ -70,9 +70,11 @@ pub record Ends-with (t : ℕ) (z : Fate) (vs : List ℕ) (a b : View) (L : Ledg
 
 module _ (t : ℕ) (z : Fate) (vs : List ℕ) (a b : View) (L : Ledger) (order : List Transaction) (inv : Invariant a L order) (o : Active a L order t)
     (h : Ends-with t z vs a b L (o .transaction)) where
+  -- the transaction before its end
   abbrev T : Transaction
   T = o .transaction
 
+  -- and ended
   abbrev T′ : Transaction
   T′ = over-with z (calls L) T
 

@@ -63,6 +63,7 @@ pair-proper p = record {
     no-read-below (suc zero) v e = below (p .one-active && (p .zero-active && p .zero-wrote)) v e
     no-read-below (suc (suc t)) v e = absurd (not-both e refl)
 
+-- who is active, whether task 0 has written, whether task 1 has read
 abbrev pub pair : Bool → Bool → Bool → Bool → Pair
 pair a b w r = record { zero-active = a; one-active = b; zero-wrote = w; one-read = r }
 

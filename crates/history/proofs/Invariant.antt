@@ -95,6 +95,7 @@ pub record Active (a : View) (L : Ledger) (order : List Transaction) (t : ℕ) :
   pub is : L .current t ≡ some transaction
   pub standing : Standing a L order t transaction
 
+-- The invariant: the order of the committed transactions, what each task has now, and what has ended.
 pub record Invariant (a : View) (L : Ledger) (order : List Transaction) : Type 0 where
   -- The committed transactions stand in a serial order.
   pub each-once : List·Permᴰ order (all-committed (L .ended))

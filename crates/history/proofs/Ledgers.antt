@@ -27,12 +27,14 @@ pub record Follows (L L′ : Ledger) (t : ℕ) (T : Transaction) : Type 0 where
   pub touched : (v k : ℕ) → Had-touched T v k → Had-touched next v k
   pub lasts : (L′ .current t ≡ some next) ⊎ (List·Memᴰ next (L′ .ended) × (calls L ≤ next .last))
 
+-- what a call leaves of a ledger: moments and ended transactions stay, current ones go on or end
 pub record Grows (L L′ : Ledger) : Type 0 where
   pub moments : (i : ℕ) (s : ℕ → ℤ) → Stood (L .moments) i s → Stood (L′ .moments) i s
   pub longer : calls L < calls L′
   pub ended : (T : Transaction) → List·Memᴰ T (L .ended) → List·Memᴰ T (L′ .ended)
   pub current : (t : ℕ) (T : Transaction) → T .fate ≡ unended → L .current t ≡ some T → Follows L L′ t T
 
+-- what a task has now is unended
 abbrev pub All-unended : Ledger → Type 0
 All-unended L = (t : ℕ) (T : Transaction) → L .current t ≡ some T → T .fate ≡ unended
 

@@ -40,6 +40,7 @@ pub record Shift (b : View) (u first : ℕ) (order′ pre post : List Transactio
   pub same : replay zeros pre′ ≡ replay zeros pre
   pub newer : (U : Transaction) → List·Memᴰ U post′ → List·Memᴰ U post ⊎ (Fences b u U × (U .last < first → ⊥))
 
+-- wherever the cut is, it can follow the change of the order
 abbrev pub All-shift : View → ℕ → ℕ → List Transaction → List Transaction → Type 0
 All-shift b u first order order′ = (pre post : List Transaction) → order ≡ pre ++ post → Shift b u first order′ pre post
 

@@ -27,6 +27,7 @@ use Rattle.history.proofs.End.{Relieved, beside-spared}
 use Rattle.history.proofs.Begin.{taken-rival}
 
 module _ (strict : Bool) (t : ℕ) (vs : List ℕ) (see : ℕ → ℤ) (a b : View) (L : Ledger) (order : List Transaction) (inv : Invariant a L order) (step : Snaps strict t vs see a b) where
+  -- the snapshot as a transaction
   abbrev S : Transaction
   S = record { task = t; first = calls L; last = calls L; accesses = gots (calls L) vs (map see vs); fate = committed }
 
@@ -126,6 +127,7 @@ module _ (strict : Bool) (t : ℕ) (vs : List ℕ) (see : ℕ → ℤ) (a b : Vi
   }
 
 module _ (t v : ℕ) (vs : List ℕ) (a b : View) (L : Ledger) (order : List Transaction) (inv : Invariant a L order) (step : Bars-snap t v vs a b) where
+  -- the refused snapshot as a transaction
   abbrev R : Transaction
   R = record { task = t; first = calls L; last = calls L; accesses = []; fate = policy-refused (some v) vs }
 

@@ -27,6 +27,7 @@ mover (commits t) = t
 mover (commit-refused t) = t
 mover (aborts t) = t
 
+-- all these moves are calls of task t
 abbrev pub All-by : ℕ → List Move → Type 0
 All-by t [] = Unit {0}
 All-by t (m ∷ ms) = (mover m ≡ t) × All-by t ms

@@ -34,6 +34,7 @@ pub data Barred : Type 0 where
   write-barred : ℕ → Barred
   commit-barred : Barred
 
+-- why a call is refused: the first check that fails decides
 pub data Refusal : Type 0 where
   sent-wrongly : Wrong → Refusal
   at-wrong-time : Untimely → Refusal

@@ -22,25 +22,30 @@ pub record Pair : Type 0 where
   pub zero-wrote : Bool
   pub one-read : Bool
 
+-- which of the two is in a transaction
 abbrev pub pair-active : Pair → ℕ → Bool
 pair-active p zero = p .zero-active
 pair-active p (suc zero) = p .one-active
 pair-active p (suc (suc t)) = false
 
+-- task 0 writes variable 5, if it has written
 abbrev pub pair-writes : Pair → ℕ → ℕ → Bool
 pair-writes p zero v = (p .zero-active && p .zero-wrote) && eqb v 5
 pair-writes p (suc t) v = false
 
+-- task 1 reads variable 5, if it has read
 abbrev pub pair-reads : Pair → ℕ → ℕ → Bool
 pair-reads p zero v = false
 pair-reads p (suc zero) v = (p .one-active && p .one-read) && eqb v 5
 pair-reads p (suc (suc t)) v = false
 
+-- task 1 is barred from variable 5 while task 0 has it written
 abbrev pub pair-bars : Pair → ℕ → ℕ → Bool
 pair-bars p zero v = false
 pair-bars p (suc zero) v = (p .one-active && (p .zero-active && p .zero-wrote)) && eqb v 5
 pair-bars p (suc (suc t)) v = false
 
+-- what this policy means
 abbrev pub pair-facts : Pair → Facts
 pair-facts p = record {
   active = pair-active p;
@@ -62,12 +67,15 @@ story =
     ∷ entry (commit 0) done five ∷ entry (read 1 5) (refused (by-policy (read-barred single 5))) zeros ∷ entry (write 0 5 (pos 7)) done zeros
     ∷ entry (begin 1) done zeros ∷ entry (begin 0) done zeros ∷ []
 
+-- the transaction that is refused
 abbrev pub first-reader : Transaction
 first-reader = record { task = 1; first = 1; last = 3; accesses = []; fate = policy-refused (some 5) [] }
 
+-- the transaction that writes variable 5
 abbrev pub writer : Transaction
 writer = record { task = 0; first = 0; last = 4; accesses = put 2 5 (pos 7) ∷ []; fate = committed }
 
+-- the transaction that reads what was written
 abbrev pub second-reader : Transaction
 second-reader = record { task = 1; first = 6; last = 8; accesses = got 7 5 (pos 7) ∷ []; fate = committed }
 
