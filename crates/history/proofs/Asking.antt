@@ -1,7 +1,7 @@
 -- What a policy's answer to a fit call tells: whether the facts allow it, and which move was made.
 use Prim.Native.Nat.{ℕ, _<_}
 use native.Mathlib.Omega.{arith}
-use mathlib.Core.Path.{_≡_, refl, sym, _∙_, ap, subst}
+use mathlib.Core.Path.{_≡_, refl, subst}
 use mathlib.Core.Bool.{Bool, true, false}
 use Rattle.std.specs.declared.result.Result.{Result}
 use Rattle.std.specs.declared.result.Result.the-variants.{Ok, Err}
@@ -10,7 +10,7 @@ use Rattle.policy.specs.Facts.{Facts}
 use Rattle.policy.specs.Moves.{Move}
 use Rattle.policy.specs.Answers.{fit-task, fit-access, fit-begin, answer, Moved}
 use Rattle.policy.specs.declared.PolicyFault.{PolicyFault}
-use Rattle.policy.specs.declared.PolicyFault.the-variants.{Unfit, ReadBarred, WriteBarred, CommitRefused}
+use Rattle.policy.specs.declared.PolicyFault.the-variants.{ReadBarred, WriteBarred, CommitRefused}
 use Rattle.policy.specs.declared.Granted.{Granted}
 use Rattle.history.proofs.Building.{below}
 

@@ -1,7 +1,7 @@
 -- The bounds of the number of reads that a collect makes.
 use Prim.Native.Nat.{ℕ, suc, _≤_}
 use native.Mathlib.Omega.{arith}
-use mathlib.Core.Path.{_≡_, refl, sym, _∙_, ap, subst}
+use mathlib.Core.Path.{_≡_, refl, sym, subst}
 use mathlib.Core.Bool.{Bool, true, false, cond, _||_}
 use mathlib.Core.Logic.{_⊎_, inl, inr}
 use mathlib.Core.List.{List, [], _∷_, _++_, List·Memᴰ, List·Memᴰ·head, List·Memᴰ·tail}
@@ -9,7 +9,7 @@ use lib.ListN.{length, length-append}
 use lib.Dec.{eqb}
 use Rattle.history.specs.Steps.{Reads-for, none-made, made, left-out}
 use Rattle.history.specs.Counts.{stands-in, different, Count-bounds}
-use Rattle.history.proofs.Logic.{truth, not-both, either-true, eqb-same, eqb-refl-true}
+use Rattle.history.proofs.Logic.{not-both, either-true, eqb-same, eqb-refl-true}
 use Rattle.history.proofs.GrantedReads.{made-only, made-short}
 
 -- what is in a list is found in it

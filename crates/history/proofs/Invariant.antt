@@ -5,13 +5,13 @@
 -- from the shared values still stands there, so it could stand last. A task that is behind can't stand last any more, but it
 -- could have stood at the moment before the commit that put it behind; since then nothing was committed that it may still read.
 use Prim.Native.Nat.{ℕ, _<_, _≤_}
-use mathlib.Core.Path.{_≡_, refl}
-use mathlib.Core.Bool.{Bool, true, false, cond}
+use mathlib.Core.Path.{_≡_}
+use mathlib.Core.Bool.{true, false, cond}
 use mathlib.Core.List.{List, [], _∷_, _++_, List·Memᴰ, List·Permᴰ}
 use mathlib.Core.Option.{Option, none, some}
 use lib.IntN.{ℤ}
 use Rattle.history.specs.Steps.{zeros}
-use Rattle.history.specs.Transactions.{Fate, unended, policy-refused, Transaction, Ledger, calls}
+use Rattle.history.specs.Transactions.{unended, policy-refused, Transaction, Ledger, calls}
 use Rattle.history.specs.Alone.{nothing-pending, pend, Exact, Shared-answer}
 use Rattle.history.specs.Serial.{all-committed, replay, All-exact, In-order}
 use Rattle.history.specs.Law.{Stood, One-moment, Rival, Has-rival}

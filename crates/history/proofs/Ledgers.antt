@@ -3,15 +3,15 @@ use Prim.Native.Nat.{ℕ, _<_, _≤_}
 use native.Mathlib.Decide.{ℕ-discrete}
 use native.Mathlib.Omega.{arith}
 use mathlib.Core.Path.{_≡_, refl, sym, _∙_, ap, subst, fun-ext}
-use mathlib.Core.Logic.{_⊎_, inl, inr, _≢_}
-use mathlib.Core.List.{List, [], _∷_, _++_, List·Memᴰ, List·Memᴰ·head, List·Memᴰ·tail, Memᴰ·append-left}
+use mathlib.Core.Logic.{_⊎_, inl, inr}
+use mathlib.Core.List.{List, _∷_, List·Memᴰ, List·Memᴰ·head, List·Memᴰ·tail, Memᴰ·append-left}
 use mathlib.Core.Option.{Option, none, some}
 use lib.IntN.{ℤ}
 use lib.ListN.{length}
 use Rattle.history.specs.Update.{at}
-use Rattle.history.specs.Transactions.{Access, got, put, Fate, unended, Transaction, Ledger, calls, Addition, nothing, opens, adds, ends, whole, note, begun, longer, over-with, grown, closed}
+use Rattle.history.specs.Transactions.{Access, got, put, Fate, unended, Transaction, Ledger, calls, nothing, opens, adds, ends, whole, note, begun, longer, over-with, grown, closed}
 use Rattle.history.specs.Alone.{Touches}
-use Rattle.history.specs.Law.{Stood, just, earlier, One-moment, Had-touched, Listed, Rival, Has-rival}
+use Rattle.history.specs.Law.{Stood, just, earlier, One-moment, Had-touched, Listed, Rival}
 use Rattle.history.proofs.Logic.{at-same, at-other, at-elim, no-some}
 use Rattle.history.proofs.Invariant.{Settled}
 

@@ -2,9 +2,9 @@
 use Prim.Native.Nat.{ℕ, zero, suc}
 use mathlib.Core.Path.{_≡_}
 use mathlib.Core.Bool.{Bool, true, false, _&&_}
-use mathlib.Core.List.{List, [], _∷_}
-use mathlib.Core.Option.{Option, none, some}
-use lib.IntN.{ℤ, pos}
+use mathlib.Core.List.{[], _∷_}
+use mathlib.Core.Option.{some}
+use lib.IntN.{pos}
 use lib.Dec.{eqb}
 use Rattle.policy.specs.Facts.{Facts}
 use Rattle.policy.specs.Moves.{Move, Keeps}

@@ -1,13 +1,13 @@
 -- Histories that no lawful table has: each breaks one part of the law.
 use Prim.Native.Nat.{ℕ}
 use mathlib.Core.Path.{_≡_}
-use mathlib.Core.List.{List, [], _∷_, List·Memᴰ}
-use mathlib.Core.Option.{Option, none, some}
+use mathlib.Core.List.{List, [], _∷_}
+use mathlib.Core.Option.{some}
 use lib.IntN.{ℤ, pos}
 use Rattle.history.specs.Update.{at}
 use Rattle.history.specs.Calls.{Call, begin, read, write, commit, single, read-barred, by-policy, Answer, done, value, refused}
 use Rattle.history.specs.Steps.{zeros}
-use Rattle.history.specs.Transactions.{Entry, History, got, put, unended, committed, policy-refused, Transaction, Ledger, read-off}
+use Rattle.history.specs.Transactions.{Entry, History, got, unended, policy-refused, Transaction, read-off}
 use Rattle.history.specs.Law.{Serial-order, One-moment, Has-rival}
 
 -- an entry of a history

@@ -5,13 +5,13 @@ use mathlib.Core.Bool.{Bool, true, false}
 use mathlib.Core.Logic.{_≢_}
 use mathlib.Core.List.{List, [], _∷_}
 use mathlib.Core.Option.{Option}
-use lib.IntN.{ℤ, pos}
+use lib.IntN.{pos}
 use Rattle.policy.specs.Facts.{Facts, Fresh}
 use Rattle.policy.specs.Moves.{Move}
 use Rattle.history.specs.Calls.{Call, Answer}
 use Rattle.history.specs.Answers.{Stage, idle, active, broken}
 use Rattle.history.specs.Steps.{State, Step}
-use Rattle.history.specs.Transactions.{Fate, policy-refused, Transaction, Ledger, Entry, History, read-off}
+use Rattle.history.specs.Transactions.{policy-refused, Transaction, Ledger, History, read-off}
 use Rattle.history.specs.Law.{Lasts, Known, Lawful}
 
 -- a task at this stage has a transaction
