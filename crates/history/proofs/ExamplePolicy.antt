@@ -215,6 +215,21 @@ read-one = record {
   others = but-one (Beside 5 (pair-facts one-began) (pair-facts one-has-read)) one-began (λ e. absurd (not-both e refl));
 }
 
+pub read-again : Has-read 1 5 (pair-facts one-has-read) (pair-facts one-has-read)
+read-again = record {
+  was = refl;
+  granted = refl;
+  active = refl;
+  behind = refl;
+  own = λ e. refl;
+  shared = λ e. refl;
+  reads = λ w ne. refl;
+  writes = λ w. refl;
+  bars = record { no-read = λ v. refl; no-write = λ v. refl };
+  only = λ u ne. refl;
+  others = but-one (Beside 5 (pair-facts one-has-read) (pair-facts one-has-read)) one-has-read (λ e. absurd (not-both e refl));
+}
+
 pub commit-one : Committed true 1 (pair-facts one-has-read) (pair-facts nobody)
 commit-one = record {
   was = refl;

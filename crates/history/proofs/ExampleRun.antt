@@ -3,13 +3,13 @@ use Prim.Native.Nat.{ℕ, zero, suc}
 use mathlib.Core.Path.{_≡_, refl}
 use mathlib.Core.Bool.{Bool, true, false, cond}
 use mathlib.Core.Logic.{_≢_}
-use mathlib.Core.List.{[], _∷_}
+use mathlib.Core.List.{[], _∷_, List·Memᴰ·head}
 use lib.IntN.{ℤ, pos}
 use lib.Dec.{eqb}
 use Rattle.history.specs.Update.{at}
-use Rattle.history.specs.Calls.{Call, begin, read, write, commit, abort, Answer, done, value, refused, by-policy, read-barred, single}
+use Rattle.history.specs.Calls.{Call, begin, read, write, collect, snapshot, commit, abort, Answer, done, value, values, refused, by-policy, read-barred, single}
 use Rattle.history.specs.Answers.{Stage, idle, active, broken}
-use Rattle.history.specs.Steps.{State, zeros, Step, none-made, made}
+use Rattle.history.specs.Steps.{State, zeros, Step, none-made, made, left-out}
 use Rattle.history.specs.Runs.{New, Leads, none-yet, then}
 use Rattle.history.specs.Refuted.{five}
 use Rattle.history.specs.Example.{Pair, pair-facts, pair-after, story, Example}
@@ -17,7 +17,7 @@ use Rattle.history.proofs.Logic.{eqb-other}
 use Rattle.history.proofs.Building.{moved-step}
 use Rattle.history.proofs.Stands.{law}
 use Rattle.history.proofs.ExamplePolicy.{pair-proper, nobody, zero-began, both-began, zero-has-written, one-was-refused, one-began, one-has-read}
-use Rattle.history.proofs.ExamplePolicy.{begin-zero, begin-one, write-zero, refuse-one, commit-zero, begin-again, read-one, commit-one}
+use Rattle.history.proofs.ExamplePolicy.{begin-zero, begin-one, write-zero, refuse-one, commit-zero, begin-again, read-one, read-again, commit-one}
 
 -- a table of two tasks: their stages, the pending values of task 0, and the shared values
 abbrev table : Pair → Stage → Stage → (ℕ → ℤ) → (ℕ → ℤ) → State Pair
@@ -122,6 +122,41 @@ step-commit-one : Goes (commit 1) five-read done all-idle
 step-commit-one = moved-step pair-facts pair-after true (commit 1) five-read done all-idle refl refl refl (nobody, commit-one, refl)
     refl (λ v. refl) (λ v. refl) (same-but-one idle idle active) (λ u ne v. refl)
 
+-- the second 5 needs no read of the policy
+step-collect : Goes (collect 1 (5 ∷ 5 ∷ []) 3) five-read (values (pos 7 ∷ pos 7 ∷ []) 1) five-read
+step-collect = record {
+  opened = one-has-read;
+  between = one-has-read;
+  reads = 5 ∷ [];
+  answered = refl;
+  opening = refl;
+  reads-made = left-out 5 (List·Memᴰ·head refl) (made 5 none-made);
+  reading = (one-has-read, read-again, refl);
+  closing = refl;
+  stage = refl;
+  pending = λ v. refl;
+  shared = λ v. refl;
+  other-stages = λ u ne. refl;
+  other-pending = λ u ne v. refl;
+}
+
+step-snapshot : Goes (snapshot 1 (5 ∷ []) 1) all-idle (values (pos 7 ∷ []) 1) all-idle
+step-snapshot = record {
+  opened = one-began;
+  between = one-has-read;
+  reads = 5 ∷ [];
+  answered = refl;
+  opening = (one-began, begin-again, refl);
+  reads-made = made 5 none-made;
+  reading = (one-has-read, read-one, refl);
+  closing = (nobody, commit-one, refl);
+  stage = refl;
+  pending = λ v. refl;
+  shared = λ v. refl;
+  other-stages = λ u ne. refl;
+  other-pending = λ u ne v. refl;
+}
+
 new-table : New pair-facts start
 new-table = record { fresh = fresh; stage = λ t. stage (eqb t 1) (eqb t 0); pending = λ t v. pending (eqb t 0) v; shared = λ v. refl }
   where
@@ -141,9 +176,11 @@ new-table = record { fresh = fresh; stage = λ t. stage (eqb t 1) (eqb t 0); pen
 
 story-runs : Leads pair-facts pair-after true start all-idle story
 story-runs =
-    then (commit 1) done (then (read 1 5) (value (pos 7)) (then (begin 1) done (then (abort 1) done (then (commit 0) done
-    (then (read 1 5) (refused (by-policy (read-barred single 5))) (then (write 0 5 (pos 7)) done (then (begin 1) done (then (begin 0) done none-yet
-    step-begin-zero) step-begin-one) step-write) step-refused) step-commit-zero) step-abort) step-begin-again) step-read) step-commit-one
+    then (snapshot 1 (5 ∷ []) 1) (values (pos 7 ∷ []) 1) (then (commit 1) done
+    (then (collect 1 (5 ∷ 5 ∷ []) 3) (values (pos 7 ∷ pos 7 ∷ []) 1) (then (read 1 5) (value (pos 7)) (then (begin 1) done (then (abort 1) done
+    (then (commit 0) done (then (read 1 5) (refused (by-policy (read-barred single 5))) (then (write 0 5 (pos 7)) done (then (begin 1) done
+    (then (begin 0) done none-yet step-begin-zero) step-begin-one) step-write) step-refused) step-commit-zero)
+    step-abort) step-begin-again) step-read) step-collect) step-commit-one) step-snapshot
 
 pub example : Example
 example = record {
@@ -153,4 +190,5 @@ example = record {
   run = story-runs;
   lawful = law pair-facts pair-after true (λ p q m k. k) pair-proper start all-idle story new-table story-runs;
   transactions = refl;
+  buffer = refl;
 }

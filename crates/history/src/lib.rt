@@ -28,7 +28,7 @@ pub fn never_refused_alone<P: Policy>() -> bool
     !law_stands::<P>()
 }
 
-// What a run with a conflict, a refusal and two commits leaves in variable 5.
+// What a run with a conflict, a refusal, two commits and a snapshot leaves in variable 5.
 pub fn example_run() -> i32
     ensures left { λ r. ⌜ r ≡ five 5 ⌝ }
     ensures run { λ _. ⌜ Example ⌝ }
