@@ -1,0 +1,12 @@
+pub mod Update
+pub mod Calls
+pub mod Answers
+pub mod Steps
+pub mod Counts
+pub mod Transactions
+pub mod Alone
+pub mod Serial
+pub mod Law
+pub mod Runs
+pub mod Refuted
+pub mod Example
