@@ -10,7 +10,7 @@ use Rattle.policy.specs.Limits.{variables}
 use Rattle.policy.specs.Facts.{Touched, Proper}
 use Rattle.transactions.specs.Sets.{Sets, Sound}
 use Rattle.transactions.proofs.Others.{Other, other-witness}
-use Rattle.own.specs.Ownership.{State, owned-by-other, facts-of}
+use Rattle.own.specs.Ownership.{State, lags, owned-by-other, facts-of}
 
 -- a task that has written something is open
 pub owner-open : (s : Sets) → Sound s → (t v : ℕ) → s .writes t v ≡ true → s .active t ≡ true
@@ -32,16 +32,16 @@ owned-below s h t v e = go (other-witness (λ u. s .writes u v) t (and-parts (s 
     go w = h .written-below (w .by) v (w .passes)
 
 -- the facts of an ownership policy are proper
-pub proper : (x : State) → Sound (x .sets) → ((t : ℕ) → x .sets .active t ≡ false → x .behind t ≡ false) → Proper (facts-of x)
-proper x h b = record {
+pub proper : (x : State) → Sound (x .sets) → Proper (facts-of x)
+proper x h = record {
   no-reads = h .no-reads;
   no-writes = h .no-writes;
-  not-behind = b;
-  may-read-all = λ t v e. let k = b t e in grind arith;
+  not-behind = λ t e. rw e;
+  may-read-all = λ t v e. rw e;
   may-write-all = λ t v e. rw e;
   task = h .task;
   read-below = h .read-below;
   written-below = h .written-below;
-  no-read-below = λ t v e. ltb-true v variables (and-parts (x .behind t) (ltb v variables) e .1);
+  no-read-below = λ t v e. ltb-true v variables (and-parts (lags x t) (ltb v variables) e .1);
   no-write-below = owned-below (x .sets) h;
 }

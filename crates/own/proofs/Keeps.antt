@@ -16,7 +16,7 @@ use Rattle.policy.proofs.SomeBelow.{some-below-witness, some-below-member}
 use Rattle.transactions.specs.Sets.{Sets, Sound, begun, ended, has-read, has-written, conflict}
 use Rattle.policy.specs.Due.{due}
 use Rattle.transactions.proofs.Others.{same-bar, fewer-bars}
-use Rattle.own.specs.Ownership.{State, owned-by-other, facts-of, next}
+use Rattle.own.specs.Ownership.{State, lags, owned-by-other, facts-of, next}
 use Rattle.own.proofs.Bars.{owned-touched}
 
 module _ (x : State) (h : Sound (x .sets)) (t : ℕ) where
@@ -82,7 +82,7 @@ module _ (x : State) (h : Sound (x .sets)) (t : ℕ) where
         falls-behind = λ v r w.
             let c : conflict (x .sets) u t ≡ true = some-below-member variables (λ y. x .sets .reads u y && x .sets .writes t y) v (h .read-below u v r) (and-from _ _ r w) in
             grind arith;
-        only-so = λ k. why (or-cases (x .behind u) (conflict (x .sets) u t) (and-parts _ (not (eqb u t)) k .0));
+        only-so = λ k. why (or-cases (x .flags u) (conflict (x .sets) u t) (and-parts _ _ k .1));
         fenced = λ k. record {
           kept = λ v l. grind arith;
           gains = λ v w. let l : ltb v variables ≡ true = lt-ltb v variables (h .written-below t v w) in grind arith;
@@ -96,8 +96,8 @@ module _ (x : State) (h : Sound (x .sets)) (t : ℕ) where
       named : (v : ℕ) × (v < variables) × ((x .sets .reads u v && x .sets .writes t v) ≡ true) → (v : ℕ) × (x .sets .reads u v ≡ true) × (x .sets .writes t v ≡ true)
       named w = let k = and-parts (x .sets .reads u (w .0)) (x .sets .writes t (w .0)) (w .2) in (w .0, k .0, k .1)
 
-      why : (x .behind u ≡ true) ⊎ (conflict (x .sets) u t ≡ true) → (x .behind u ≡ true) ⊎ ((v : ℕ) × (x .sets .reads u v ≡ true) × (x .sets .writes t v ≡ true))
-      why (inl k) = inl k
+      why : (x .flags u ≡ true) ⊎ (conflict (x .sets) u t ≡ true) → (lags x u ≡ true) ⊎ ((v : ℕ) × (x .sets .reads u v ≡ true) × (x .sets .writes t v ≡ true))
+      why (inl k) = inl (and-from (x .sets .active u) (x .flags u) on k)
       why (inr k) = inr (named (some-below-witness variables (λ v. x .sets .reads u v && x .sets .writes t v) k))
 
   keeps-commit : (fit-task (facts-of x) t && may-commit true (facts-of x) t) ≡ true → Committed true t (facts-of x) (facts-of (next (commit t) x))

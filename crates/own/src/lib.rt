@@ -32,7 +32,7 @@ impl Own {
 
     // Whether an open task is behind.
     fn lags(&self, task: u8) -> bool
-        ensures { λ r. ⌜ r ≡ state (now (self .entry)) .behind task ⌝ }
+        ensures { λ r. ⌜ r ≡ «own-facts» (now (self .entry)) .behind task ⌝ }
     {
         self.transactions.is_open(task) && self.behind[task as usize]
     }

@@ -1,4 +1,4 @@
-use Prim.Native.Nat.{ℕ, _<_}
+use Prim.Native.Nat.{ℕ}
 use mathlib.Core.Path.{_≡_}
 use mathlib.Core.Bool.{false, _&&_, _||_}
 use lib.Dec.{ltb}
@@ -11,4 +11,4 @@ use Rattle.own.proofs.Own.overtaken.Given as given
 abbrev pub Inv-loop-other : given.InvT-loop-other
 Inv-loop-other l =
     (length (l .behind) ≡ tasks)
-    × ((u : ℕ) → u < tasks → getD (l .behind) u false ≡ (getD (l .self .behind) u false || (ltb u (l .other) && conflict (state (l .self) .sets) u (l .task))))
+    × ((u : ℕ) → getD (l .behind) u false ≡ (getD (l .self .behind) u false || (ltb u (l .other) && conflict (state (l .self) .sets) u (l .task))))

@@ -1,6 +1,5 @@
 use mathlib.Core.Path.{_≡_, sym, subst}
 use mathlib.Core.Bool.{true}
-use native.Mathlib.Omega.{arith}
 use Rattle.policy.specs.Moves.{Keeps}
 use Rattle.transactions.proofs.Sound.{sound}
 use Rattle.own.specs.Ownership.{facts-of}
@@ -10,7 +9,7 @@ use Rattle.own.proofs.Keeps.{keeps}
 use Rattle.own.proofs.OwnPolicy.the-impl.Needs as need
 
 pub proper-law : need.proper-law
-proper-law p = proper (state p) (sound (p .transactions)) (λ t e. grind arith)
+proper-law p = proper (state p) (sound (p .transactions))
 
 pub keeps-law : need.keeps-law
 keeps-law p q m a =
