@@ -1,5 +1,5 @@
 -- Arrays that were renumbered or stamped hold what the steps say.
-use Prim.Native.Nat.{ℕ, _+_, _<_, _≤_}
+use Prim.Native.Nat.{ℕ, _+_, _≤_}
 use mathlib.Core.Path.{_≡_, refl, sym, ap, _∙_}
 use mathlib.Core.Bool.{Bool, false, cond}
 use mathlib.Core.List.{List, map}
@@ -15,7 +15,7 @@ use Rattle.clock.specs.declared.transaction.Transaction.{Transaction}
 use Rattle.clock.specs.Different.{different-below}
 use Rattle.clock.specs.Held.{Held, Sound}
 use Rattle.clock.specs.Steps.{read-versions, at-version, renumbered, stamped}
-use Rattle.clock.specs.Rows.{row, rows, numbers, begun-after}
+use Rattle.clock.specs.Rows.{row, rows, numbers, begun-after, new-number, Renumbered-rows, Stamped-versions}
 use Rattle.clock.proofs.Counting.{below-bound, below-zero}
 use Rattle.clock.proofs.ReadVersions.{row-at, read-versions-below}
 use Rattle.clock.proofs.Soundness.{written-from, begun-from}
@@ -40,10 +40,9 @@ policy-from clock ns ts l m sound =
 
 module _ (clock : ℕ) (ns : List ℕ) (ts : List (Option Transaction)) (sound : Sound (holding clock ns ts)) (wide : length ns ≡ variables) where
   pub renumbered-arrays : (clock′ : ℕ) (ns′ : List ℕ) (ts′ : List (Option Transaction))
-      → clock′ ≡ different-below (read-versions tasks (rows ts)) (clock + 1)
-      → ns′ ≡ map (different-below (read-versions tasks (rows ts))) ns
-      → ((t : ℕ) → t < tasks
-      → row (getD ts′ t None) ≡ at-version (different-below (read-versions tasks (rows ts))) (row (getD ts t None)))
+      → clock′ ≡ new-number ts (clock + 1)
+      → ns′ ≡ map (new-number ts) ns
+      → Renumbered-rows ts ts′
       → holding clock′ ns′ ts′ ≡ renumbered (holding clock ns ts)
   renumbered-arrays clock′ ns′ ts′ c n r =
       let versions : List ℕ = read-versions tasks (rows ts) in
@@ -61,7 +60,7 @@ module _ (clock : ℕ) (ns : List ℕ) (ts : List (Option Transaction)) (sound :
       (λ t h. ap (at-version number) (row-past ts t h)))
 
   pub stamped-arrays : (set : ℕ → Bool) (ns′ : List ℕ) → ((v : ℕ) → variables ≤ v → set v ≡ false)
-      → ((v : ℕ) → v < variables → getD ns′ v 0 ≡ cond (set v) (clock + 1) (getD ns v 0))
+      → Stamped-versions set (clock + 1) ns ns′
       → holding (clock + 1) ns′ ts ≡ stamped set (holding clock ns ts)
   stamped-arrays set ns′ outside n =
       same-held (holding (clock + 1) ns′ ts) (stamped set (holding clock ns ts)) refl

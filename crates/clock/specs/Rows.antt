@@ -1,5 +1,6 @@
 -- How the arrays of a clock policy are read.
-use Prim.Native.Nat.{ℕ}
+use Prim.Native.Nat.{ℕ, _<_}
+use mathlib.Core.Path.{_≡_}
 use mathlib.Core.Bool.{Bool, false, cond}
 use mathlib.Core.List.{List}
 use lib.Dec.{ltb}
@@ -9,7 +10,9 @@ use Rattle.std.specs.declared.option.Option.the-variants.{Some, None}
 use Rattle.policy.specs.Limits.{tasks, variables}
 use Rattle.varset.specs.Members.{member}
 use Rattle.clock.specs.declared.transaction.Transaction.{Transaction}
+use Rattle.clock.specs.Different.{different-below}
 use Rattle.clock.specs.Held.{Running}
+use Rattle.clock.specs.Steps.{read-versions, at-version}
 
 -- a transaction of the program
 abbrev pub running : Transaction → Running
@@ -32,3 +35,16 @@ numbers ns v = cond (ltb v variables) (getD ns v 0) 0
 abbrev pub begun-after : ℕ → Option Transaction → Bool
 begun-after n None = false
 begun-after n (Some x) = ltb n (x .«read_version»)
+
+-- the new number of x: how many different read versions below it the transactions have
+abbrev pub new-number : List (Option Transaction) → ℕ → ℕ
+new-number ts = different-below (read-versions tasks (rows ts))
+
+-- each transaction has its new read version
+abbrev pub Renumbered-rows : List (Option Transaction) → List (Option Transaction) → Type 0
+Renumbered-rows before after =
+    (t : ℕ) → t < tasks → row (getD after t None) ≡ at-version (new-number before) (row (getD before t None))
+
+-- the variables in the set have the version n, and the others the one that they had
+abbrev pub Stamped-versions : (ℕ → Bool) → ℕ → List ℕ → List ℕ → Type 0
+Stamped-versions set n before after = (v : ℕ) → v < variables → getD after v 0 ≡ cond (set v) n (getD before v 0)

@@ -1,22 +1,21 @@
 // The changes that the calls are made of.
 ghost use mathlib.Core.Path.{_≡_};
-ghost use mathlib.Core.Bool.{false, cond};
-ghost use Prim.Native.Nat.{ℕ, _<_};
-ghost use lib.ListN.{getD};
+ghost use mathlib.Core.Bool.{false};
+ghost use Prim.Native.Nat.{_<_};
 ghost use Rattle.policy.specs.Limits.{tasks, variables};
 ghost use Rattle.policy.specs.Facts.{«some-below»};
 ghost use Rattle.varset.specs.Members.{member};
 ghost use Rattle.clock.specs.Held.{«stale-for»};
 ghost use Rattle.clock.specs.Steps.{top, «with-transaction», renumbered, stamped, published, «No-fact-changed»};
-ghost use Rattle.clock.specs.Rows.{row, running, numbers, «begun-after»};
+ghost use Rattle.clock.specs.Rows.{row, running, numbers, «begun-after», «Stamped-versions»};
 ghost use Rattle.clock.specs.Clocks.{held};
 use crate::renumbering::different_below;
 use crate::renumbering::renumber_transactions;
 use crate::renumbering::renumber_versions;
 use crate::state::Clock;
-use crate::state::TASKS;
-use crate::state::VARIABLES;
 use crate::transaction::Transaction;
+use policy::TASKS;
+use policy::VARIABLES;
 use varset::VarSet;
 
 // Whether the transaction has read something that was written since it began.
@@ -33,7 +32,7 @@ pub(crate) fn is_stale(versions: &[u32; VARIABLES], x: Transaction) -> bool
 
 // Gives the number to what was written.
 fn stamp_versions(versions: &mut [u32; VARIABLES], written: VarSet, number: u32)
-    ensures { λ _. ⌜ ((v : ℕ) → v < variables → getD (now (versions .exit)) v 0 ≡ cond (member written v) number (getD (now (versions .entry)) v 0)) ⌝ }
+    ensures { λ _. ⌜ «Stamped-versions» (member written) number (now (versions .entry)) (now (versions .exit)) ⌝ }
 {
     for v in 0..VARIABLES as u8 {
         if written.has(v) {

@@ -1,16 +1,14 @@
 // Smaller numbers in the same order: how many different read versions there are below each.
 ghost use mathlib.Core.Path.{_≡_};
-ghost use Prim.Native.Nat.{ℕ, _<_, _≤_};
-ghost use lib.ListN.{getD};
+ghost use Prim.Native.Nat.{_≤_};
 ghost use mathlib.Core.List.{map};
-ghost use Rattle.clock.specs.Different.{among, «different-below», «how-many-below»};
-ghost use Rattle.clock.specs.Steps.{«read-versions», «at-version»};
-ghost use Rattle.clock.specs.Rows.{row, rows};
-ghost use Rattle.std.specs.declared.option.Option.the-variants.{None as nobody};
+ghost use Rattle.clock.specs.Different.{among, «how-many-below»};
+ghost use Rattle.clock.specs.Steps.{«read-versions»};
+ghost use Rattle.clock.specs.Rows.{rows, «new-number», «Renumbered-rows»};
 ghost use Rattle.policy.specs.Limits.{tasks};
-use crate::state::TASKS;
-use crate::state::VARIABLES;
 use crate::transaction::Transaction;
+use policy::TASKS;
+use policy::VARIABLES;
 
 // Whether one of the first `count` tasks has a transaction with this read version.
 fn is_read_version(transactions: &[Option<Transaction>; TASKS], count: usize, number: u32) -> bool
@@ -29,7 +27,7 @@ fn is_read_version(transactions: &[Option<Transaction>; TASKS], count: usize, nu
 
 // How many different read versions there are below the bound.
 pub(crate) fn different_below(transactions: &[Option<Transaction>; TASKS], bound: u64) -> u32
-    ensures number { λ r. ⌜ r ≡ «different-below» («read-versions» tasks (rows (now (transactions .entry)))) bound ⌝ }
+    ensures number { λ r. ⌜ r ≡ «new-number» (now (transactions .entry)) bound ⌝ }
     ensures counts { λ r. ⌜ r ≡ «how-many-below» bound (among («read-versions» tasks (rows (now (transactions .entry))))) ⌝ }
 {
     let mut different = 0;
@@ -49,7 +47,7 @@ pub(crate) fn renumber_versions(
     versions: &mut [u32; VARIABLES],
     transactions: &[Option<Transaction>; TASKS],
 )
-    ensures { λ _. ⌜ now (versions .exit) ≡ map («different-below» («read-versions» tasks (rows (now (transactions .entry))))) (now (versions .entry)) ⌝ }
+    ensures { λ _. ⌜ now (versions .exit) ≡ map («new-number» (now (transactions .entry))) (now (versions .entry)) ⌝ }
 {
     for version in versions.iter_mut() {
         *version = different_below(transactions, u64::from(*version));
@@ -57,7 +55,7 @@ pub(crate) fn renumber_versions(
 }
 
 pub(crate) fn renumber_transactions(transactions: &mut [Option<Transaction>; TASKS])
-    ensures { λ _. ⌜ ((t : ℕ) → t < tasks → row (getD (now (transactions .exit)) t nobody) ≡ «at-version» («different-below» («read-versions» tasks (rows (now (transactions .entry))))) (row (getD (now (transactions .entry)) t nobody))) ⌝ }
+    ensures { λ _. ⌜ «Renumbered-rows» (now (transactions .entry)) (now (transactions .exit)) ⌝ }
 {
     let before = *transactions;
     for t in 0..TASKS {

@@ -3,6 +3,8 @@ use crate::answers::Answer;
 use crate::answers::GRANTED;
 use crate::answers::UNFIT;
 use crate::answers::same;
+use clock::Clock;
+use clock::ClockPolicy;
 use eager::Eager;
 use eager::EagerPolicy;
 use lock::Lock;
@@ -98,6 +100,45 @@ fn own_refuses_the_overtaken_commit() -> Result<(), Fail> {
             GRANTED,
             GRANTED,
             refused,
+        ],
+    ))
+}
+
+// A task that is behind may still read what wasn't written since.
+#[test]
+fn clock_refuses_the_overtaken_commit() -> Result<(), Fail> {
+    let refused = Err(PolicyFault::CommitRefused);
+    let answers = overtaken_reader(&mut Clock::new(0));
+    check(same(
+        &answers,
+        &[
+            GRANTED,
+            GRANTED,
+            GRANTED,
+            GRANTED,
+            GRANTED,
+            GRANTED,
+            GRANTED,
+            refused,
+        ],
+    ))
+}
+
+#[test]
+fn eager_clock_bars_the_overtaken_reader() -> Result<(), Fail> {
+    let barred = Err(PolicyFault::ReadBarred(6));
+    let answers = overtaken_reader(&mut Eager::new(Clock::new(0)));
+    check(same(
+        &answers,
+        &[
+            GRANTED,
+            GRANTED,
+            GRANTED,
+            GRANTED,
+            GRANTED,
+            barred,
+            UNFIT,
+            UNFIT,
         ],
     ))
 }

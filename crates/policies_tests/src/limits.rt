@@ -3,6 +3,8 @@ use crate::answers::Answer;
 use crate::answers::GRANTED;
 use crate::answers::UNFIT;
 use crate::answers::same;
+use clock::Clock;
+use clock::ClockPolicy;
 use eager::Eager;
 use eager::EagerPolicy;
 use lock::Lock;
@@ -97,6 +99,11 @@ fn lock_at_the_limits() -> Result<(), Fail> {
 #[test]
 fn own_at_the_limits() -> Result<(), Fail> {
     at_the_limits(&mut Own::new())
+}
+
+#[test]
+fn clock_at_the_limits() -> Result<(), Fail> {
+    at_the_limits(&mut Clock::new(u32::MAX))
 }
 
 #[test]

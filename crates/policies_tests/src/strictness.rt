@@ -1,4 +1,6 @@
 // The constant of each policy is what `is_strict` answers.
+use clock::Clock;
+use clock::ClockPolicy;
 use eager::Eager;
 use eager::EagerPolicy;
 use lock::Lock;
@@ -16,6 +18,8 @@ fn constant_told<P: Policy>() -> Result<(), Fail> {
 fn constants_are_told() -> Result<(), Fail> {
     constant_told::<Lock>()?;
     constant_told::<Own>()?;
+    constant_told::<Clock>()?;
+    constant_told::<Eager<Clock>>()?;
     constant_told::<Eager<Own>>()?;
     constant_told::<Eager<Eager<Lock>>>()
 }
@@ -25,4 +29,10 @@ fn lock_and_own_are_strict() -> Result<(), Fail> {
     check(Lock::STRICT)?;
     check(Own::STRICT)?;
     check(Eager::<Own>::STRICT)
+}
+
+#[test]
+fn clock_is_not_strict() -> Result<(), Fail> {
+    check(!Clock::STRICT)?;
+    check(!Eager::<Clock>::STRICT)
 }

@@ -5,7 +5,7 @@ use native.Mathlib.Omega.{arith}
 use Rattle.policy.specs.Limits.{tasks}
 use Rattle.clock.specs.Different.{among, different-below}
 use Rattle.clock.specs.Steps.{read-versions}
-use Rattle.clock.specs.Rows.{rows}
+use Rattle.clock.specs.Rows.{rows, new-number}
 use Rattle.clock.proofs.Counting.{below-none, below-new, below-known, below-above, below-counts}
 use Rattle.clock.proofs.ReadVersions.{read-versions-none, read-versions-idle, read-versions-begun}
 use Rattle.clock.proofs.renumbering.different_below.Needs as need
@@ -54,7 +54,7 @@ loop-t-again c =
 pub returns : need.returns
 returns c =
     let end : c .loop-t .t ≡ tasks = omega arith in
-    let e : c .loop-t .different ≡ different-below (read-versions tasks (rows (c .args .transactions .now))) (c .args .bound) =
+    let e : c .loop-t .different ≡ new-number (c .args .transactions .now) (c .args .bound) =
     c .loop-t .inv .0
     ∙ ap (λ t. different-below (read-versions t (rows (c .args .transactions .now))) (c .args .bound)) end in
     record {

@@ -5,11 +5,8 @@ use native.Mathlib.Omega.{arith}
 use lib.ListN.{length}
 use Rattle.std.proofs.shelf.Lists.{length-set}
 use Rattle.std.specs.declared.option.Option.{Option}
-use Rattle.policy.specs.Limits.{tasks}
 use Rattle.clock.specs.declared.transaction.Transaction.{Transaction}
-use Rattle.clock.specs.Different.{different-below}
-use Rattle.clock.specs.Steps.{read-versions}
-use Rattle.clock.specs.Rows.{rows}
+use Rattle.clock.specs.Rows.{new-number}
 use Rattle.clock.proofs.Rewriting.{Rewritten, rewritten-idle, rewritten-begun}
 use Rattle.clock.proofs.renumbering.renumber_transactions.Needs as need
 use Rattle.clock.proofs.renumbering.renumber_transactions.Needs.{in-Some, in-rest}
@@ -17,7 +14,7 @@ use Rattle.clock.proofs.renumbering.renumber_transactions.Needs.{in-Some, in-r
 pub loop-t-again : need.loop-t-again
 loop-t-again c =
     let ts : List (Option Transaction) = c .args .transactions .now in
-    let number : ℕ → ℕ = different-below (read-versions tasks (rows ts)) in
+    let number : ℕ → ℕ = new-number ts in
     let wide : c .loop-t .t < length (c .loop-t .transactions) = omega arith in
     elim (c .match-before-t .came) [
       | in-Some w ↦ (

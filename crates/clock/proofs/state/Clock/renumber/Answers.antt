@@ -1,17 +1,15 @@
-use Prim.Native.Nat.{ℕ, _+_, _<_}
+use Prim.Native.Nat.{ℕ, _+_}
 use mathlib.Core.Path.{_≡_, sym, ap, subst, _∙_}
 use mathlib.Core.List.{List, map}
 use native.Mathlib.Omega.{arith}
-use lib.ListN.{length, getD}
+use lib.ListN.{length}
 use Rattle.std.specs.declared.option.Option.{Option}
-use Rattle.std.specs.declared.option.Option.the-variants.{None}
-use Rattle.policy.specs.Limits.{tasks, variables}
+use Rattle.policy.specs.Limits.{variables}
 use Rattle.clock.specs.declared.state.Clock.{Clock}
 use Rattle.clock.specs.declared.transaction.Transaction.{Transaction}
-use Rattle.clock.specs.Different.{different-below}
 use Rattle.clock.specs.Held.{Sound, meaning}
-use Rattle.clock.specs.Steps.{renumbered, read-versions, at-version}
-use Rattle.clock.specs.Rows.{row, rows}
+use Rattle.clock.specs.Steps.{renumbered}
+use Rattle.clock.specs.Rows.{new-number, Renumbered-rows}
 use Rattle.clock.specs.Clocks.{held}
 use Rattle.clock.proofs.Arrays.{holding, renumbered-arrays, policy-from}
 use Rattle.clock.proofs.Renumbered.{renumbered-sound, renumbered-meaning}
@@ -20,15 +18,13 @@ use Rattle.clock.proofs.state.Clock.renumber.Needs as need
 
 -- what the three calls leave is what was held, renumbered
 renumbers : (p : Clock) (n clock : ℕ) (ns : List ℕ) (ts : List (Option Transaction)) → length (p .versions) ≡ variables
-    → n ≡ p .clock → clock ≡ different-below (read-versions tasks (rows (p .transactions))) (n + 1)
-    → ns ≡ map (different-below (read-versions tasks (rows (p .transactions)))) (p .versions)
-    → ((t : ℕ) → t < tasks
-    → row (getD ts t None)
-    ≡ at-version (different-below (read-versions tasks (rows (p .transactions)))) (row (getD (p .transactions) t None)))
+    → n ≡ p .clock → clock ≡ new-number (p .transactions) (n + 1)
+    → ns ≡ map (new-number (p .transactions)) (p .versions)
+    → Renumbered-rows (p .transactions) ts
     → holding clock ns ts ≡ renumbered (held p)
 renumbers p n clock ns ts wide e c m r =
     renumbered-arrays (p .clock) (p .versions) (p .transactions) (sound p) wide clock ns ts
-    (c ∙ ap (λ k. different-below (read-versions tasks (rows (p .transactions))) (k + 1)) e) m r
+    (c ∙ ap (λ k. new-number (p .transactions) (k + 1)) e) m r
 
 pub ghost-self-2 : need.ghost-self-2
 ghost-self-2 c =

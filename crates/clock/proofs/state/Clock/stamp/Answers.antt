@@ -1,6 +1,5 @@
-use Prim.Native.Nat.{ℕ, _+_, _<_}
+use Prim.Native.Nat.{ℕ, _+_}
 use mathlib.Core.Path.{_≡_, sym, subst}
-use mathlib.Core.Bool.{cond}
 use mathlib.Core.List.{List}
 use native.Mathlib.Omega.{arith}
 use lib.ListN.{length, getD}
@@ -11,6 +10,7 @@ use Rattle.varset.specs.declared.VarSet.{VarSet}
 use Rattle.clock.specs.declared.state.Clock.{Clock}
 use Rattle.clock.specs.Held.{Sound}
 use Rattle.clock.specs.Steps.{stamped}
+use Rattle.clock.specs.Rows.{Stamped-versions}
 use Rattle.clock.specs.Clocks.{held}
 use Rattle.clock.proofs.Arrays.{holding, stamped-arrays, stamped-sound}
 use Rattle.clock.proofs.Soundness.{written-from}
@@ -19,7 +19,7 @@ use Rattle.clock.proofs.state.Clock.stamp.Needs as need
 
 -- what the call leaves is what was held, stamped
 stamps : (p : Clock) (w : VarSet) (ns : List ℕ) → length (p .versions) ≡ variables
-    → ((v : ℕ) → v < variables → getD ns v 0 ≡ cond (member w v) (p .clock + 1) (getD (p .versions) v 0))
+    → Stamped-versions (member w) (p .clock + 1) (p .versions) ns
     → holding (p .clock + 1) ns (p .transactions) ≡ stamped (member w) (held p)
 stamps p w ns wide n =
     stamped-arrays (p .clock) (p .versions) (p .transactions) (sound p) wide (member w) ns (member-outside w) n
