@@ -1,0 +1,11 @@
+pub mod Update
+pub mod Calls
+pub mod Answers
+pub mod Steps
+pub mod Transactions
+pub mod Alone
+pub mod Serial
+pub mod Law
+pub mod Runs
+pub mod Refuted
+pub mod Example
