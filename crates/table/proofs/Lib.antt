@@ -1,0 +1,4 @@
+pub mod Checking
+pub mod Stages
+pub mod Making
+pub mod Beginning
