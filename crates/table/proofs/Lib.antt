@@ -1,0 +1,10 @@
+pub mod Checking
+pub mod Stages
+pub mod StepMaking
+pub mod Beginning
+pub mod Clearing
+pub mod NewTable
+pub mod Granting
+pub mod Accessing
+pub mod Sight
+pub mod Ending

@@ -1,0 +1,26 @@
+use mathlib.Core.Path.{refl, _∙_}
+use Rattle.std.proofs.shelf.Lists.{set-getD}
+use Rattle.std.proofs.shelf.Results.{err-from-errBy}
+use Rattle.history.specs.Calls.{begin}
+use Rattle.table.specs.declared.stage.Stage.the-variants.{Idle}
+use Rattle.table.proofs.Beginning.{begin-granted}
+use Rattle.table.proofs.StepMaking.{unmoved-step, stepped}
+use Rattle.table.proofs.table.Table.begin.Needs as need
+
+pub returns-in-Break-check-call : need.returns-in-Break-check-call
+returns-in-Break-check-call g c sound =
+    let p = err-from-errBy (c .from-residual .result) (c .from-residual .ensures .1) in
+    let same = c .check-call .ensures .moved ∙ set-getD (c .args .self .now .stages) (c .args .task) Idle in
+    rw (p .1, p .2)
+    (stepped (g .P·Policy .facts) (g .P·Policy .after) (g .P·Policy .strict) (g .P·Policy·met .keeps) (g .P·Policy·met .proper) (begin (c .args .task)) _ _ _ sound
+    (unmoved-step (g .P·Policy .facts) (g .P·Policy .after) (g .P·Policy .strict) (begin (c .args .task)) (c .in-Break-check-call .field-0 .0)
+    (c .args .self .now .policy) (c .args .self .now .stages) (c .check-call .last .stages) (c .args .self .now .shared)
+    (c .in-Break-check-call .ensures tt .answer) same (λ x s. refl)))
+
+pub returns-in-Ok : need.returns-in-Ok
+returns-in-Ok g c sound =
+    let same = c .check-call .ensures .moved ∙ set-getD (c .args .self .now .stages) (c .args .task) Idle in
+    stepped (g .P·Policy .facts) (g .P·Policy .after) (g .P·Policy .strict) (g .P·Policy·met .keeps) (g .P·Policy·met .proper) (begin (c .args .task)) _ _ _ sound
+    (begin-granted (g .P·Policy .facts) (g .P·Policy .after) (g .P·Policy .strict) (c .args .task) (c .args .self .now .policy) (c .begin .last .self)
+    (c .args .self .now .stages) (c .check-call .last .stages) (c .begun .result) (c .args .self .now .shared) (c .check-call .ensures .all)
+    (c .in-Continue-check-call .ensures tt .answer) same (c .begun .ensures) (c .in-Ok .ensures tt .moved))
