@@ -2,24 +2,22 @@
 use Prim.Native.Nat.{ℕ}
 use mathlib.Core.Path.{_≡_, refl, sym, _∙_, ap, subst}
 use mathlib.Core.Bool.{Bool, true, false}
-use mathlib.Core.Logic.{_⊎_, inl, inr, _≢_}
 use mathlib.Core.List.{List, [], _∷_, map}
-use mathlib.Core.Option.{Option, none, some}
+use mathlib.Core.Option.{none, some}
 use lib.IntN.{ℤ}
 use lib.ListN.{take}
 use Rattle.policy.specs.Facts.{Facts, may-read, may-write, may-commit, Proper}
 use Rattle.policy.specs.Moves.{Move, Begun, Has-written, Ended, Refused, Committed, Keeps, read-refused, write-refused, commit-refused}
 use Rattle.policy.specs.Moves.{begin as begins, read as reads-variable, write as writes-variable, commit as commits, abort as aborts}
-use Rattle.history.specs.Calls.{Call, begin, read, write, collect, snapshot, commit, abort, task, single, listed, Barred, read-barred, write-barred, commit-barred, by-policy, Answer, done, refused}
+use Rattle.history.specs.Calls.{Call, begin, read, write, collect, snapshot, commit, abort, task, single, Barred, read-barred, write-barred, commit-barred, by-policy, Answer, done, refused}
 use Rattle.history.specs.Answers.{Stage, idle, active, broken, untimely, barred, granted, must-not-be-idle}
 use Rattle.history.specs.Steps.{State, Chain, Reads-for, Step, sees, abort-moves}
 use Rattle.history.specs.Transactions.{Addition, adds, ends, Transaction, Ledger, aborted, policy-refused, calls, gots, note, addition}
 use Rattle.history.specs.Runs.{in-transaction, Sound}
 use Rattle.history.proofs.Logic.{not-both, no-some, at-same, at-other, not-false}
 use Rattle.history.proofs.Rules.{commit-silent, commit-behind, read-bar}
-use Rattle.history.proofs.Views.{View, view, sight, Quiet}
+use Rattle.history.proofs.Views.{view, sight, Quiet}
 use Rattle.history.proofs.GrantedReads.{Read-all, made-reads}
-use Rattle.history.proofs.Effects.{Reads, Bars-read}
 use Rattle.history.proofs.Invariant.{Invariant}
 use Rattle.history.proofs.Ledgers.{ends-nothing}
 use Rattle.history.proofs.Begin.{begin-keeps, idle-keeps}

@@ -1,10 +1,9 @@
 -- A step taken apart: which check decided its answer, and what its moves come to.
-use Prim.Native.Nat.{ℕ, zero, suc, _<_}
+use Prim.Native.Nat.{ℕ, suc}
 use native.Mathlib.Omega.{arith}
 use native.Mathlib.Decide.{ℕ-discrete}
 use mathlib.Core.Path.{_≡_, refl, sym, _∙_, ap, subst}
-use mathlib.Core.Bool.{Bool, true, false, cond}
-use mathlib.Core.Logic.{_⊎_, inl, inr, _≢_}
+use mathlib.Core.Bool.{Bool, true, false}
 use mathlib.Core.List.{List, [], _∷_, _++_, map}
 use mathlib.Core.Option.{Option, none, some}
 use lib.IntN.{ℤ}
@@ -12,12 +11,12 @@ use lib.ListN.{length}
 use Rattle.policy.specs.Facts.{Facts, may-read}
 use Rattle.policy.specs.Moves.{Move}
 use Rattle.policy.specs.Moves.{read as reads-variable}
-use Rattle.history.specs.Calls.{Call, begin, read, write, collect, snapshot, commit, abort, task, Place, listed, Wrong, Untimely, Barred, read-barred, sent-wrongly, at-wrong-time, by-policy, Answer, refused}
-use Rattle.history.specs.Answers.{Stage, idle, active, broken, checked, must-be-active, must-be-idle, must-not-be-idle, unless-allowed, first-barred, wrong, untimely, barred, granted}
+use Rattle.history.specs.Calls.{Call, begin, read, write, collect, snapshot, commit, abort, task, listed, Wrong, Untimely, Barred, read-barred, sent-wrongly, at-wrong-time, by-policy, Answer, refused}
+use Rattle.history.specs.Answers.{Stage, idle, active, broken, checked, must-be-active, must-be-idle, unless-allowed, first-barred, wrong, untimely, barred, granted}
 use Rattle.history.specs.Steps.{State, Chain, Reads-for, none-made, made, left-out, Step, sees, first-moves, granted-reads, last-moves, stage-after, pending-after, shared-after}
-use Rattle.history.specs.Transactions.{Addition, nothing, addition}
+use Rattle.history.specs.Transactions.{nothing, addition}
 use Rattle.history.specs.Runs.{in-transaction}
-use Rattle.history.proofs.Logic.{truth, not-both, no-some}
+use Rattle.history.proofs.Logic.{no-some}
 
 -- an answer is decided by the first check that fails
 pub by-check : (Q : Answer → Type 0) (w : Option Wrong) (y : Option Untimely) (z : Option Barred) (ok : Answer)

@@ -1,14 +1,14 @@
 -- Stages and policy keep agreeing: what a call does to the task that makes it.
 use Prim.Native.Nat.{ℕ}
 use mathlib.Core.Path.{_≡_, refl, sym, _∙_, ap, subst}
-use mathlib.Core.Bool.{Bool, true, false}
+use mathlib.Core.Bool.{Bool, false}
 use mathlib.Core.List.{List, [], _∷_, map}
-use mathlib.Core.Option.{Option, none, some}
+use mathlib.Core.Option.{none, some}
 use lib.IntN.{ℤ, pos}
 use Rattle.policy.specs.Facts.{Facts, Proper, may-read, may-write, may-commit}
-use Rattle.policy.specs.Moves.{Move, Begun, Has-written, Ended, Keeps, read-refused, write-refused, commit-refused}
+use Rattle.policy.specs.Moves.{Move, Has-written, Keeps, read-refused, write-refused, commit-refused}
 use Rattle.policy.specs.Moves.{begin as begins, read as reads-variable, write as writes-variable, commit as commits, abort as aborts}
-use Rattle.history.specs.Calls.{Call, begin, read, write, collect, snapshot, commit, abort, task, single, listed, Barred, read-barred, write-barred, commit-barred, by-policy, Answer, done, refused}
+use Rattle.history.specs.Calls.{Call, begin, read, write, collect, snapshot, commit, abort, task, single, Barred, read-barred, write-barred, commit-barred, by-policy, Answer, done, refused}
 use Rattle.history.specs.Answers.{Stage, idle, active, broken, untimely, barred, granted, must-be-idle, must-not-be-idle}
 use Rattle.history.specs.Steps.{State, Chain, Step, sees, abort-moves, stage-after, pending-after}
 use Rattle.history.specs.Runs.{in-transaction, Sound}

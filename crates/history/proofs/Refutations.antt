@@ -8,12 +8,11 @@ use mathlib.Core.List.{List, [], _∷_, List·Memᴰ, List·Memᴰ·head, List·
 use mathlib.Core.Option.{Option, none, some}
 use lib.IntN.{ℤ, pos}
 use lib.Dec.{eqb, lit<}
-use Rattle.history.specs.Update.{at}
 use Rattle.history.specs.Steps.{zeros}
-use Rattle.history.specs.Transactions.{Transaction, Ledger, got, put, committed, begun, read-off}
+use Rattle.history.specs.Transactions.{Transaction, got, put, committed, begun, read-off}
 use Rattle.history.specs.Serial.{All-exact, In-order}
-use Rattle.history.specs.Law.{Serial-order, Stood, just, earlier, One-moment, Rival, Has-rival, Lasts}
-use Rattle.history.specs.Refuted.{five, five-and-six, stale, torn, torn-reader, lonely, lonely-reader, Refuted}
+use Rattle.history.specs.Law.{Serial-order, Stood, just, earlier, One-moment, Has-rival, Lasts}
+use Rattle.history.specs.Refuted.{five, stale, torn, torn-reader, lonely, lonely-reader, Refuted}
 use Rattle.history.proofs.Logic.{no-some}
 
 -- the orders of two

@@ -1,15 +1,16 @@
 -- Histories that no lawful table has: each breaks one part of the law.
 use Prim.Native.Nat.{ℕ}
 use mathlib.Core.Path.{_≡_}
-use mathlib.Core.List.{List, [], _∷_, List·Memᴰ}
-use mathlib.Core.Option.{Option, none, some}
+use mathlib.Core.List.{List, [], _∷_}
+use mathlib.Core.Option.{some}
 use lib.IntN.{ℤ, pos}
 use Rattle.history.specs.Update.{at}
 use Rattle.history.specs.Calls.{Call, begin, read, write, commit, single, read-barred, by-policy, Answer, done, value, refused}
 use Rattle.history.specs.Steps.{zeros}
-use Rattle.history.specs.Transactions.{Entry, History, got, put, unended, committed, policy-refused, Transaction, Ledger, read-off}
+use Rattle.history.specs.Transactions.{Entry, History, got, unended, policy-refused, Transaction, read-off}
 use Rattle.history.specs.Law.{Serial-order, One-moment, Has-rival}
 
+-- an entry of a history
 abbrev pub entry : Call → Answer → (ℕ → ℤ) → Entry
 entry c r s = record { call = c; answer = r; shared = s }
 
@@ -33,6 +34,7 @@ torn =
     entry (read 1 6) (value (pos 7)) five-and-six ∷ entry (commit 0) done five-and-six ∷ entry (write 0 6 (pos 7)) done zeros
     ∷ entry (write 0 5 (pos 7)) done zeros ∷ entry (begin 0) done zeros ∷ entry (read 1 5) (value (pos 0)) zeros ∷ entry (begin 1) done zeros ∷ []
 
+-- the transaction of task 1 in it
 abbrev pub torn-reader : Transaction
 torn-reader = record { task = 1; first = 0; last = 6; accesses = got 1 5 (pos 0) ∷ got 6 6 (pos 7) ∷ []; fate = unended }
 
@@ -40,9 +42,11 @@ torn-reader = record { task = 1; first = 0; last = 6; accesses = got 1 5 (pos 0)
 abbrev pub lonely : History
 lonely = entry (read 0 5) (refused (by-policy (read-barred single 5))) zeros ∷ entry (begin 0) done zeros ∷ []
 
+-- the transaction of task 0 in it
 abbrev pub lonely-reader : Transaction
 lonely-reader = record { task = 0; first = 0; last = 1; accesses = []; fate = policy-refused (some 5) [] }
 
+-- the three, each of which breaks one part of the law
 abbrev pub unlawful-histories : List History
 unlawful-histories = stale ∷ torn ∷ lonely ∷ []
 
