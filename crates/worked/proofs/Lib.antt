@@ -1,0 +1,4 @@
+pub mod Replays
+pub mod Schedules
+pub mod Policies
+pub mod Worked
