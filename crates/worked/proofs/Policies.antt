@@ -1,6 +1,7 @@
 -- What each policy of the worked schedules holds, and what every move makes of it.
 use Prim.Native.Nat.{ℕ}
 use mathlib.Core.Path.{_≡_, refl}
+use mathlib.Core.Bool.{true}
 use mathlib.Core.List.{List}
 use mathlib.Core.Option.{Option, none, some}
 use Rattle.policy.specs.Facts.{Facts}
@@ -21,7 +22,7 @@ use Rattle.history.specs.Runs.{New, Leads}
 use Rattle.worked.specs.Policies.{Kind, lock, own, clock, eager-clock, Policy-of, stated, Made, clock-of}
 use Rattle.worked.specs.Lines.{Line}
 use Rattle.worked.proofs.Replays.{picture}
-use Rattle.worked.proofs.Schedules.{new-table, Right, Replay, calls, line-calls, runs}
+use Rattle.worked.proofs.Schedules.{all-plain, new-table, Right, Replay, calls, line-calls, runs}
 
 -- what a policy holds
 abbrev pub Held : Kind → Type 0
@@ -71,15 +72,15 @@ clock-held (clock start) p = refl
 clock-held (eager-clock start) p = refl
 
 -- every run of the calls of some lines over a new policy of this kind
-pub runs-over : (k : Kind) (ls : List Line) → Right (meaning k) (after-move k) (stated k .strict) ls (new-table (first k))
+pub runs-over : (k : Kind) (ls : List Line) → all-plain ls ≡ true → Right (meaning k) (after-move k) (stated k .strict) ls (new-table (first k))
     → (a b : State (Policy-of k)) (h : History) → New (stated k .facts) a → Made k (a .policy)
     → Leads (stated k .facts) (stated k .after) (stated k .strict) a b h → calls h ≡ line-calls ls
     → Replay (meaning k) (after-move k) ls h (new-table (first k)) (picture (held k) b)
-runs-over lock ls right = runs (held lock) (meaning lock) (after-move lock) (stated lock .after) (stated lock .strict) (λ p q m s. s .sets) (first lock) ls right
-runs-over own ls right = runs (held own) (meaning own) (after-move own) (stated own .after) (stated own .strict) (λ p q m s. s .holds) (first own) ls right
-runs-over (clock start) ls right =
+runs-over lock ls e right = runs (held lock) (meaning lock) (after-move lock) (stated lock .after) (stated lock .strict) (λ p q m s. s .sets) (first lock) ls e right
+runs-over own ls e right = runs (held own) (meaning own) (after-move own) (stated own .after) (stated own .strict) (λ p q m s. s .holds) (first own) ls e right
+runs-over (clock start) ls e right =
     runs (held (clock start)) (meaning (clock start)) (after-move (clock start)) (stated (clock start) .after) (stated (clock start) .strict)
-    (λ p q m s. s .step) (first (clock start)) ls right
-runs-over (eager-clock start) ls right =
+    (λ p q m s. s .step) (first (clock start)) ls e right
+runs-over (eager-clock start) ls e right =
     runs (held (eager-clock start)) (meaning (eager-clock start)) (after-move (eager-clock start)) (stated (eager-clock start) .after) (stated (eager-clock start) .strict)
-    (λ p q m s. s .below .step) (first (eager-clock start)) ls right
+    (λ p q m s. s .below .step) (first (eager-clock start)) ls e right
