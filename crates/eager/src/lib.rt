@@ -1,6 +1,7 @@
 // The eager layer: over any policy, a task that is behind may neither read nor write any more.
 ghost use mathlib.Core.Path.{_≡_};
 ghost use mathlib.Core.Bool.{true, _&&_};
+ghost use Rattle.policy.specs.Facts.{Fresh};
 ghost use Rattle.policy.specs.Moves.{abort as aborts};
 ghost use Rattle.policy.specs.Answers.{«fit-task»};
 ghost use Rattle.eager.specs.Layer.{fenced, After};
@@ -15,7 +16,8 @@ pub struct Eager<P> {
 
 impl<P: Policy> Eager<P> {
     pub fn new(below: P) -> Eager<P>
-        ensures { λ r. ⌜ r .below ≡ below ⌝ }
+        ensures holds { λ r. ⌜ r .below ≡ below ⌝ }
+        ensures fresh { λ r. ⌜ (Fresh (P·Policy .facts below) → Fresh (fenced (P·Policy .facts (r .below)))) ⌝ }
     {
         Eager { below }
     }
