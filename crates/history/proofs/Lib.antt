@@ -20,6 +20,7 @@ pub mod OwnTask
 pub mod Soundness
 pub mod Stands
 pub mod Building
+pub mod Collecting
 pub mod Asking
 pub mod Refutations
 pub mod ExamplePolicy

@@ -140,18 +140,20 @@ module _ {P : Type 0} (facts : P → Facts) (after : P → Move → P → Type 0
     pub unasked-shared : Unasked c (a .stage (task c)) r → (v : ℕ) → b .shared v ≡ a .shared v
     unasked-shared u v = s .shared v ∙ ap (λ (p : ℕ → ℤ). p v) (u .shared (sees facts c a (s .opened)) (a .shared))
 
-    -- a case for each check that may have decided the answer
+    -- the cases of an answer: the policy wasn't asked, or it refused, or it granted
     pub by-answer : (Q : Answer → Type 0)
-        → ((x : Wrong) → Step facts after strict c a (refused (sent-wrongly x)) b → Q (refused (sent-wrongly x)))
-        → ((x : Untimely) → untimely c (a .stage (task c)) ≡ some x → Step facts after strict c a (refused (at-wrong-time x)) b → Q (refused (at-wrong-time x)))
+        → ((q : Answer) → Unasked c (a .stage (task c)) q → Step facts after strict c a q b → Q q)
         → ((x : Barred) → untimely c (a .stage (task c)) ≡ none → (p : P) → barred strict (facts p) c ≡ some x
         → Step facts after strict c a (refused (by-policy x)) b → Q (refused (by-policy x)))
         → ((p : P) (k : ℕ) → untimely c (a .stage (task c)) ≡ none
         → (s′ : Step facts after strict c a (granted (sees facts c a p) k c) b) → s′ .opened ≡ p → Q (granted (sees facts c a p) k c))
         → Q r
-    by-answer Q f g h k =
+    by-answer Q unasked bars grants =
         subst (λ (q : Answer). (s′ : Step facts after strict c a q b) → s′ .opened ≡ s .opened → Q q) (sym (s .answered))
         (by-check (λ (q : Answer). (s′ : Step facts after strict c a q b) → s′ .opened ≡ s .opened → Q q)
         (wrong c) (untimely c (a .stage (task c))) (barred strict (facts (s .opened)) c) (granted (sees facts c a (s .opened)) (length (s .reads)) c)
-        (λ x w s′ e. f x s′) (λ x y s′ e. g x y s′) (λ x y z s′ e. h x y (s .opened) z s′) (λ y z s′ e. k (s .opened) (length (s .reads)) y s′ e))
+        (λ x w s′ e. unasked (refused (sent-wrongly x)) (wrong-unasked c (a .stage (task c)) x) s′)
+        (λ x y s′ e. unasked (refused (at-wrong-time x)) (untimely-unasked c (a .stage (task c)) x y) s′)
+        (λ x y z s′ e. bars x y (s .opened) z s′)
+        (λ y z s′ e. grants (s .opened) (length (s .reads)) y s′ e))
         s refl

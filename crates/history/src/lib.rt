@@ -36,10 +36,10 @@ pub fn example_run() -> i32
     7
 }
 
-// How many histories are refuted here: one for each part of the law.
+// How many histories are refuted here: each breaks a part of the law.
 pub fn refuted_histories() -> usize
     ensures count { λ r. ⌜ r ≡ length «unlawful-histories» ⌝ }
     ensures refuted { λ _. ⌜ Refuted ⌝ }
 {
-    3
+    5
 }
