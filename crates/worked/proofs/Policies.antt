@@ -22,7 +22,7 @@ use Rattle.history.specs.Runs.{New, Leads}
 use Rattle.worked.specs.Policies.{Kind, lock, own, clock, eager-clock, Policy-of, stated, Made, clock-of}
 use Rattle.worked.specs.Lines.{Line}
 use Rattle.worked.proofs.Replays.{picture}
-use Rattle.worked.proofs.Schedules.{all-plain, new-table, Right, Replay, calls, line-calls, runs}
+use Rattle.worked.proofs.Schedules.{all-plain, new-table, after-lines, Right, Replay, calls, line-calls, runs}
 
 -- what a policy holds
 abbrev pub Held : Kind → Type 0
@@ -71,10 +71,17 @@ clock-held own p = refl
 clock-held (clock start) p = refl
 clock-held (eager-clock start) p = refl
 
+-- the table over a new policy of this kind after some lines, newest first, by what the policy holds
+abbrev pub shown : (k : Kind) → List Line → State (Held k)
+shown k ls = after-lines (meaning k) (after-move k) ls (new-table (first k))
+
+-- the replies of some lines are right over such a policy
+abbrev pub Right-over : Kind → List Line → Type 0
+Right-over k ls = Right (meaning k) (after-move k) (stated k .strict) ls (new-table (first k))
+
 -- every run of the calls of some lines over a new policy of this kind
-pub runs-over : (k : Kind) (ls : List Line) → all-plain ls ≡ true → Right (meaning k) (after-move k) (stated k .strict) ls (new-table (first k))
-    → (a b : State (Policy-of k)) (h : History) → New (stated k .facts) a → Made k (a .policy)
-    → Leads (stated k .facts) (stated k .after) (stated k .strict) a b h → calls h ≡ line-calls ls
+pub runs-over : (k : Kind) (ls : List Line) → all-plain ls ≡ true → Right-over k ls → (a b : State (Policy-of k)) (h : History) → New (stated k .facts) a
+    → Made k (a .policy) → Leads (stated k .facts) (stated k .after) (stated k .strict) a b h → calls h ≡ line-calls ls
     → Replay (meaning k) (after-move k) ls h (new-table (first k)) (picture (held k) b)
 runs-over lock ls e right = runs (held lock) (meaning lock) (after-move lock) (stated lock .after) (stated lock .strict) (λ p q m s. s .sets) (first lock) ls e right
 runs-over own ls e right = runs (held own) (meaning own) (after-move own) (stated own .after) (stated own .strict) (λ p q m s. s .holds) (first own) ls e right

@@ -54,7 +54,7 @@ module _ {H : Type 0} (meaning : H → Facts) where
     shared = shared-after c r (sees meaning c x (x .policy)) (x .shared);
   }
 
-no-first-moves : (c : Call) (r : Answer) → plain c ≡ true → first-moves c r ≡ []
+pub no-first-moves : (c : Call) (r : Answer) → plain c ≡ true → first-moves c r ≡ []
 no-first-moves (begin t) r e = refl
 no-first-moves (read t v) r e = refl
 no-first-moves (write t v x) r e = refl
@@ -64,7 +64,7 @@ no-first-moves (commit t) r e = refl
 no-first-moves (abort t) r e = refl
 
 -- a plain call's answer has no count of reads in it
-no-count : (c : Call) (see : ℕ → ℤ) (k : ℕ) → plain c ≡ true → granted see k c ≡ granted see 0 c
+pub no-count : (c : Call) (see : ℕ → ℤ) (k : ℕ) → plain c ≡ true → granted see k c ≡ granted see 0 c
 no-count (begin t) see k e = refl
 no-count (read t v) see k e = refl
 no-count (write t v x) see k e = refl
@@ -81,7 +81,7 @@ one-read t v (refused (sent-wrongly why)) = omega arith
 one-read t v (refused (at-wrong-time why)) = omega arith
 one-read t v (refused (by-policy why)) = omega arith
 
-few-reads : (c : Call) (r : Answer) → plain c ≡ true → length (granted-reads c r) ≤ 1
+pub few-reads : (c : Call) (r : Answer) → plain c ≡ true → length (granted-reads c r) ≤ 1
 few-reads (begin t) r e = omega arith
 few-reads (read t v) r e = one-read t v r
 few-reads (write t v x) r e = omega arith

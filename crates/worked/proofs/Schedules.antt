@@ -22,7 +22,7 @@ answer-of ok = done
 answer-of (the-value x) = value x
 answer-of (refusal n why) = refused why
 
-is-stated : (y : Reply) (r : Answer) → Is y r → r ≡ answer-of y
+pub is-stated : (y : Reply) (r : Answer) → Is y r → r ≡ answer-of y
 is-stated ok r h = h
 is-stated (the-value x) r h = h
 is-stated (refusal n why) r h = h .0

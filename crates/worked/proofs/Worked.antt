@@ -8,12 +8,12 @@ use Rattle.policy.specs.Facts.{some-below}
 use Rattle.clock.specs.Different.{among, different, different-below}
 use Rattle.clock.specs.Steps.{read-versions}
 use Rattle.history.specs.Steps.{State}
-use Rattle.worked.specs.Policies.{Kind, Policy-of, stated}
+use Rattle.worked.specs.Policies.{Kind, Policy-of}
 use Rattle.worked.specs.Rows.{Left, nothing-more, variable-is, clock-is, Row, Leaves, Holds, All-hold, rows}
 use Rattle.worked.specs.Rows.{locked, both-read, too-new, newly-read, behind-reads-on, behind-is-barred, behind-writer, eagerly-barred, owned, renumbered}
 use Rattle.worked.proofs.Replays.{picture}
-use Rattle.worked.proofs.Schedules.{all-plain, Right, new-table, after-lines}
-use Rattle.worked.proofs.Policies.{Held, held, first, meaning, after-move, clock-in, clock-held, runs-over}
+use Rattle.worked.proofs.Schedules.{all-plain}
+use Rattle.worked.proofs.Policies.{Held, held, clock-in, clock-held, shown, Right-over, runs-over}
 
 -- the table, seen by what its policy holds, is left as a row says
 abbrev Left-so : (k : Kind) → Left → State (Held k) → Type 0
@@ -24,8 +24,8 @@ Left-so k (clock-is n) x = clock-in k (x .policy) ≡ some n
 -- the row comes out right when its lines are replayed
 record Worked-out (row : Row) : Type 0 where
   pub plain : all-plain (reverse (row .lines)) ≡ true
-  pub right : Right (meaning (row .over)) (after-move (row .over)) (stated (row .over) .strict) (reverse (row .lines)) (new-table (first (row .over)))
-  pub left : Left-so (row .over) (row .left) (after-lines (meaning (row .over)) (after-move (row .over)) (reverse (row .lines)) (new-table (first (row .over))))
+  pub right : Right-over (row .over) (reverse (row .lines))
+  pub left : Left-so (row .over) (row .left) (shown (row .over) (reverse (row .lines)))
 
 leaves : (k : Kind) (l : Left) (b : State (Policy-of k)) (x : State (Held k)) → picture (held k) b ≡ x → Left-so k l x → Leaves k l b
 leaves k nothing-more b x e h = tt
@@ -37,7 +37,7 @@ holds row w a b h new made run same =
     let r = runs-over (row .over) (reverse (row .lines)) (w .plain) (w .right) a b h new made run same in (
       r .answers,
       leaves (row .over) (row .left) b
-          (after-lines (meaning (row .over)) (after-move (row .over)) (reverse (row .lines)) (new-table (first (row .over)))) (r .ends) (w .left),
+          (shown (row .over) (reverse (row .lines))) (r .ends) (w .left),
     )
 
 locked-holds : Holds locked

@@ -190,3 +190,19 @@ Holds row =
 abbrev pub All-hold : List Row → Type 0
 All-hold [] = Unit {0}
 All-hold (row ∷ more) = Holds row × All-hold more
+
+-- such a run that leaves its policy at p
+pub record Played (row : Row) (p : Policy-of (row .over)) : Type 0 where
+  pub start : State (Policy-of (row .over))
+  pub end : State (Policy-of (row .over))
+  pub history : History
+  pub new : New (stated (row .over) .facts) start
+  pub made : Made (row .over) (start .policy)
+  pub run : Leads (stated (row .over) .facts) (stated (row .over) .after) (stated (row .over) .strict) start end history
+  pub calls : map (λ (e : Entry). e .call) history ≡ map (λ (l : Line). l .call) (reverse (row .lines))
+  pub policy : end .policy ≡ p
+
+-- each of some rows has such a run
+abbrev pub All-played : List Row → Type 0
+All-played [] = Unit {0}
+All-played (row ∷ more) = ((p : Policy-of (row .over)) × Played row p) × All-played more
