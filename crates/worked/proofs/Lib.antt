@@ -1,0 +1,5 @@
+pub mod Replays
+pub mod Schedules
+pub mod Policies
+pub mod Playing
+pub mod Worked
