@@ -1,0 +1,10 @@
+pub mod Sums
+pub mod Cuts
+pub mod Feeds
+pub mod Letters
+pub mod Numerals
+pub mod Writing
+pub mod Departing
+pub mod Parsed
+pub mod FirstLine
+pub mod Reports

@@ -1,0 +1,10 @@
+pub mod Pieces
+pub mod Fields
+pub mod Lines
+pub mod Numbers
+pub mod Grammar
+pub mod Written
+pub mod Faults
+pub mod Texts
+pub mod Shown
+pub mod Choices
