@@ -1,4 +1,6 @@
 pub mod Checking
 pub mod Stages
-pub mod Making
+pub mod StepMaking
 pub mod Beginning
+pub mod Clearing
+pub mod NewTable

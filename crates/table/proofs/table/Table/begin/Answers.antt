@@ -7,7 +7,7 @@ use Rattle.policy.specs.Limits.{tasks}
 use Rattle.history.specs.Calls.{begin}
 use Rattle.table.specs.declared.stage.Stage.the-variants.{Idle}
 use Rattle.table.proofs.Beginning.{begin-granted}
-use Rattle.table.proofs.Making.{unmoved-step, stepped}
+use Rattle.table.proofs.StepMaking.{unmoved-step, stepped}
 use Rattle.table.proofs.table.Table.begin.Needs as need
 
 pub returns-in-Break-check-call : need.returns-in-Break-check-call
