@@ -1,0 +1,3 @@
+// A schedule text, run line by line over a new table under the policy that it names.
+pub mod outcome;
+mod room;
