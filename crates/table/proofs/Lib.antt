@@ -4,3 +4,7 @@ pub mod StepMaking
 pub mod Beginning
 pub mod Clearing
 pub mod NewTable
+pub mod Granting
+pub mod Accessing
+pub mod Sight
+pub mod Ending

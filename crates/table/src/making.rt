@@ -1,16 +1,15 @@
 // The making of a table.
 ghost use mathlib.Core.Path.{_≡_};
-ghost use lib.IntN.{pos};
 ghost use lib.ListN.{replicate};
-ghost use Rattle.policy.specs.Limits.{tasks, variables};
+ghost use Rattle.policy.specs.Limits.{tasks};
 ghost use Rattle.policy.specs.Facts.{Fresh};
 ghost use Rattle.history.specs.Runs.{New};
 ghost use Rattle.table.specs.Views.{view};
 ghost use Rattle.table.specs.Making.{«Aborted-below», «Law-from»};
 use crate::stage::Stage;
+use crate::stage::zeros;
 use crate::table::TASKS;
 use crate::table::Table;
-use crate::table::VARIABLES;
 use policy::Policy;
 
 // Aborts every task that the policy has open.
@@ -28,13 +27,6 @@ fn all_idle() -> [Stage; TASKS]
     ensures { λ r. ⌜ r ≡ replicate tasks Stage.Idle ⌝ }
 {
     [Stage::Idle; TASKS]
-}
-
-// Every shared value is 0.
-fn zeros() -> [i32; VARIABLES]
-    ensures { λ r. ⌜ r ≡ replicate variables (pos 0) ⌝ }
-{
-    [0; VARIABLES]
 }
 
 impl<P: Policy> Table<P> {
