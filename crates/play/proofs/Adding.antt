@@ -46,3 +46,9 @@ signed-below (negsuc n) h = refl
 -- one more byte of a text
 pub text-on : (a b x text : List ℕ) (i : ℕ) → i < length text → x ≡ b ++ (getD text i 0 ∷ []) → b ≡ a ++ take i text → x ≡ a ++ take (i + 1) text
 text-on a b x text i h e q = rw (e, q, take-more text i 0 h) (append-assoc a (take i text) (getD text i 0 ∷ []))
+
+-- the same for an answer that is known to be a refusal
+pub adds-refused : (xs bs : List ℕ) (n : ℕ) (s t u : List ℕ) (r : Result ℕ NoRoom) (why this : NoRoom) → r ≡ Err this → Adds xs n s (Err why) t
+    → Adds (xs ++ bs) n s r u
+adds-refused xs bs n s t u r why this e p =
+    subst (λ (x : Result ℕ NoRoom). Adds (xs ++ bs) n s x u) (sym e) (adds-short xs bs n s t u this p)

@@ -11,3 +11,8 @@ use Rattle.play.specs.declared.outcome.NoRoom.{NoRoom}
 abbrev pub Adds : List ℕ → ℕ → List ℕ → Result ℕ NoRoom → List ℕ → Type 0
 Adds bs n before (Ok m) after = (m ≡ n + length bs) × (m ≤ length before) × (take m after ≡ take n before ++ bs)
 Adds bs n before (Err why) after = length before < n + length bs
+
+-- at most k bytes were added, and a refusal means that there is no room for so many
+abbrev pub Within : ℕ → ℕ → List ℕ → Result ℕ NoRoom → Type 0
+Within k n before (Ok m) = m ≤ n + k
+Within k n before (Err why) = length before < n + k

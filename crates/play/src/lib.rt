@@ -1,3 +1,4 @@
 // A schedule text, run line by line over a new table under the policy that it names.
 pub mod outcome;
+mod printing;
 mod room;
