@@ -1,0 +1,4 @@
+pub mod Room
+pub mod Printed
+pub mod Performing
+pub mod Playing
