@@ -1,3 +1,4 @@
+// What the policy answers, and what each call makes of the locks.
 ghost use mathlib.Core.Path.{_≡_};
 ghost use mathlib.Core.Bool.{true, false};
 ghost use Rattle.policy.specs.Facts.{Fresh};
@@ -8,7 +9,7 @@ use crate::Lock;
 use policy::Granted;
 use policy::Policy;
 use policy::PolicyFault;
-use transactions::TASKS;
+use policy::TASKS;
 use transactions::Transactions;
 
 impl Lock {

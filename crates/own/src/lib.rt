@@ -8,7 +8,7 @@ ghost use Rattle.own.specs.After.{state, facts as «own-facts», After};
 use policy::Granted;
 use policy::Policy;
 use policy::PolicyFault;
-use transactions::TASKS;
+use policy::TASKS;
 use transactions::Transactions;
 
 // The flag of a task that isn't open counts for nothing.

@@ -5,18 +5,16 @@ ghost use Prim.Native.Nat.{ℕ};
 ghost use Rattle.policy.specs.Limits.{variables};
 ghost use Rattle.policy.specs.Facts.{«some-below»};
 ghost use Rattle.varset.specs.Members.{member, Holds, nothing, everything, plus, either, both};
+use policy::VARIABLES;
 
 // One bit for each variable.
 type Mask = u64;
-
-// How many variables there are.
-const WIDTH: u8 = 64;
 
 // Whether there is such a variable.
 pub fn is_variable(variable: u8) -> bool
     ensures { λ r. ⌜ r ≡ everything variable ⌝ }
 {
-    variable < WIDTH
+    (variable as usize) < VARIABLES
 }
 
 #[derive(Clone, Copy)]
