@@ -5,11 +5,11 @@ ghost use Rattle.clock.specs.After.{After};
 ghost use Rattle.clock.specs.Clocks.{held};
 use crate::changes::is_stale;
 use crate::state::Clock;
-use crate::state::TASKS;
 use crate::transaction::Transaction;
 use policy::Granted;
 use policy::Policy;
 use policy::PolicyFault;
+use policy::TASKS;
 use varset::is_variable;
 
 pub impl Policy for Clock as ClockPolicy {

@@ -13,9 +13,9 @@ use crate::renumbering::different_below;
 use crate::renumbering::renumber_transactions;
 use crate::renumbering::renumber_versions;
 use crate::state::Clock;
-use crate::state::TASKS;
-use crate::state::VARIABLES;
 use crate::transaction::Transaction;
+use policy::TASKS;
+use policy::VARIABLES;
 use varset::VarSet;
 
 // Whether the transaction has read something that was written since it began.

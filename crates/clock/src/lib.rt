@@ -12,9 +12,9 @@ mod state;
 mod transaction;
 
 pub use calls::ClockPolicy;
+use policy::TASKS;
+use policy::VARIABLES;
 pub use state::Clock;
-use state::TASKS;
-use state::VARIABLES;
 
 impl Clock {
     pub fn new(start: u32) -> Clock

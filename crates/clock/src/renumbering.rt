@@ -6,9 +6,9 @@ ghost use Rattle.clock.specs.Different.{among, «how-many-below»};
 ghost use Rattle.clock.specs.Steps.{«read-versions»};
 ghost use Rattle.clock.specs.Rows.{rows, «new-number», «Renumbered-rows»};
 ghost use Rattle.policy.specs.Limits.{tasks};
-use crate::state::TASKS;
-use crate::state::VARIABLES;
 use crate::transaction::Transaction;
+use policy::TASKS;
+use policy::VARIABLES;
 
 // Whether one of the first `count` tasks has a transaction with this read version.
 fn is_read_version(transactions: &[Option<Transaction>; TASKS], count: usize, number: u32) -> bool

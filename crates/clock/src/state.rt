@@ -7,10 +7,8 @@ ghost use lib.ListN.{getD};
 ghost use Rattle.std.specs.declared.option.Option.the-variants.{None as nothing};
 ghost use Rattle.clock.specs.Rows.{«begun-after»};
 use crate::transaction::Transaction;
-
-pub const TASKS: usize = 8;
-
-pub const VARIABLES: usize = 64;
+use policy::TASKS;
+use policy::VARIABLES;
 
 // TL2. No version and no read version is above the clock.
 #[derive(Drop)]
