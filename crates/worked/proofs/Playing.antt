@@ -1,31 +1,27 @@
--- Runs built from what a policy was asked and how it moved.
-use Prim.Native.Nat.{ℕ, _≤_}
-use native.Mathlib.Omega.{arith}
+-- Runs built from what a policy was asked, call by call, and how it answered.
+use Prim.Native.Nat.{ℕ}
 use mathlib.Core.Path.{_≡_, refl, sym, _∙_, ap, subst}
-use mathlib.Core.Bool.{Bool, true, _&&_}
-use mathlib.Core.List.{List, [], _∷_, _++_, map, reverse}
-use lib.IntN.{ℤ}
-use lib.ListN.{length}
+use mathlib.Core.Bool.{Bool, true, false, cond, _&&_}
+use mathlib.Core.List.{List, [], _∷_, reverse}
 use Rattle.std.specs.declared.result.Result.{Result}
-use Rattle.std.specs.declared.result.Result.the-variants.{Err}
+use Rattle.std.specs.declared.result.Result.the-variants.{Ok, Err}
 use Rattle.policy.specs.declared.PolicyFault.{PolicyFault}
-use Rattle.policy.specs.declared.PolicyFault.the-variants.{Unfit}
+use Rattle.policy.specs.declared.PolicyFault.the-variants.{Unfit, ReadBarred, WriteBarred, CommitRefused}
 use Rattle.policy.specs.declared.Granted.{Granted}
 use Rattle.policy.specs.Facts.{Facts, Fresh}
 use Rattle.policy.specs.Moves.{Move, read-refused, write-refused, commit-refused}
 use Rattle.policy.specs.Moves.{begin as begins, read as reads-variable, write as writes-variable, commit as commits, abort as aborts}
 use Rattle.policy.specs.Answers.{Moved, begin-answer, read-answer, write-answer, commit-answer, abort-answer}
-use Rattle.history.specs.Update.{at}
-use Rattle.history.specs.Calls.{Call, begin, read, write, collect, snapshot, commit, abort, task, Answer}
-use Rattle.history.specs.Answers.{checked, wrong, untimely, barred}
-use Rattle.history.specs.Steps.{State, Chain, Reads-for, none-made, made, Step, sees, granted-reads, last-moves, stage-after, pending-after, shared-after}
+use Rattle.history.specs.Calls.{Call, begin, read, write, collect, snapshot, commit, abort, task}
+use Rattle.history.specs.Steps.{State, in-case, Chain}
 use Rattle.history.specs.Transactions.{History}
 use Rattle.history.specs.Runs.{New, Leads, none-yet, then}
-use Rattle.history.proofs.Logic.{at-same, at-other}
+use Rattle.history.proofs.Logic.{both-true}
 use Rattle.worked.specs.Policies.{Kind, lock, own, clock, eager-clock, Policy-of, stated, Made}
 use Rattle.worked.specs.Lines.{Line, Is}
 use Rattle.worked.specs.Rows.{Row, Played}
-use Rattle.worked.proofs.Replays.{picture, plain as is-plain, moves, replied, no-first-moves, no-count, few-reads}
+use Rattle.worked.proofs.Replays.{picture, plain, moves, replied}
+use Rattle.worked.proofs.PlainSteps.{continued, plain-step}
 use Rattle.worked.proofs.Schedules.{all-plain, new-table, answer-of, is-stated, calls, line-calls}
 use Rattle.worked.proofs.Policies.{Held, held, meaning, shown, Right-over, runs-over}
 
@@ -42,48 +38,6 @@ facts-held lock p = refl
 facts-held own p = refl
 facts-held (clock start) p = refl
 facts-held (eager-clock start) p = refl
-
-chain-split : {P : Type 0} (after : P → Move → P → Type 0) (ms ns : List Move) (p q : P) → Chain after (ms ++ ns) p q
-    → (mid : P) × Chain after ms p mid × Chain after ns mid q
-chain-split after [] ns p q c = (p, refl, c)
-chain-split after (m ∷ ms) ns p q c = let rest = chain-split after ms ns (c .0) q (c .2) in (rest .0, (c .0, c .1, rest .1), rest .2)
-
-one-made : (vs : List ℕ) → length vs ≤ 1 → Reads-for vs vs
-one-made [] h = none-made
-one-made (v ∷ []) h = made v none-made
-one-made (v ∷ (w ∷ vs)) h = absurd (omega arith)
-
-module _ {P : Type 0} (facts : P → Facts) where
-  -- the table after a plain call that is answered r and leaves the policy at q
-  abbrev pub continued : Call → Answer → State P → P → State P
-  continued c r a q = record {
-    policy = q;
-    stage = at (a .stage) (task c) (stage-after c r (a .stage (task c)));
-    pending = at (a .pending) (task c) (pending-after c r (a .pending (task c)));
-    shared = shared-after c r (sees facts c a (a .policy)) (a .shared);
-  }
-
-module _ {P : Type 0} (facts : P → Facts) (after : P → Move → P → Type 0) (strict : Bool) where
-  -- the step of a plain call, from its moves
-  plain-step : (c : Call) (r : Answer) (a : State P) (q : P) → is-plain c ≡ true → r ≡ replied facts strict c a
-      → Chain after (moves c (a .stage (task c)) r) (a .policy) q → Step facts after strict c a r (continued facts c r a q)
-  plain-step c r a q e answered chain =
-      let parts = chain-split after (map (reads-variable (task c)) (granted-reads c r)) (last-moves c (a .stage (task c)) r) (a .policy) q chain in
-      record {
-        opened = a .policy;
-        between = parts .0;
-        reads = granted-reads c r;
-        answered = answered ∙ sym (ap (checked (wrong c) (untimely c (a .stage (task c))) (barred strict (facts (a .policy)) c)) (no-count c (sees facts c a (a .policy)) (length (granted-reads c r)) e));
-        opening = subst (λ (ms : List Move). Chain after ms (a .policy) (a .policy)) (sym (no-first-moves c r e)) refl;
-        reads-made = one-made (granted-reads c r) (few-reads c r e);
-        reading = parts .1;
-        closing = parts .2;
-        stage = at-same (a .stage) (task c) (stage-after c r (a .stage (task c)));
-        pending = λ v. ap (λ (p : ℕ → ℤ). p v) (at-same (a .pending) (task c) (pending-after c r (a .pending (task c))));
-        shared = λ v. refl;
-        other-stages = at-other (a .stage) (task c) (stage-after c r (a .stage (task c)));
-        other-pending = λ u ne v. ap (λ (p : ℕ → ℤ). p v) (at-other (a .pending) (task c) (pending-after c r (a .pending (task c))) u ne);
-      }
 
 -- the policy's answer to a call; it isn't asked for a whole list
 abbrev pub asked-answer : Bool → Call → Facts → Result Granted PolicyFault
@@ -115,10 +69,54 @@ refused-move (snapshot t vs room) = aborts t
 refused-move (commit t) = commit-refused t
 refused-move (abort t) = aborts t
 
+-- the moves that a policy's answer tells of
+abbrev pub told-moves : Move → Move → Result Granted PolicyFault → List Move
+told-moves done barred (Ok g) = done ∷ []
+told-moves done barred (Err Unfit) = []
+told-moves done barred (Err (ReadBarred v)) = barred ∷ []
+told-moves done barred (Err (WriteBarred v)) = barred ∷ []
+told-moves done barred (Err CommitRefused) = barred ∷ []
+
+told-chain : {P : Type 0} (after : P → Move → P → Type 0) (done barred : Move) (p q : P) (r : Result Granted PolicyFault) → Moved after done barred p q r
+    → Chain after (told-moves done barred r) p q
+told-chain after done barred p q (Ok g) h = (q, h, refl)
+told-chain after done barred p q (Err Unfit) h = h
+told-chain after done barred p q (Err (ReadBarred v)) h = (q, h, refl)
+told-chain after done barred p q (Err (WriteBarred v)) h = (q, h, refl)
+told-chain after done barred p q (Err CommitRefused) h = (q, h, refl)
+
+-- the table asks its policy about the call of a line
+abbrev pub asks : Line → Bool
+asks l = in-case (answer-of (l .reply)) true (λ why. true) false
+
+-- the moves that the policy makes for the call of a line, after the lines before it
+abbrev pub moves-for : (k : Kind) → Line → List Line → List Move
+moves-for k l ls =
+    cond (asks l)
+    (told-moves (granted-move (l .call)) (refused-move (l .call)) (asked-answer (stated k .strict) (l .call) (meaning k (shown k ls .policy)))) []
+
+-- they are the moves of the table's step, line by line
+abbrev pub Moves-right : Kind → List Line → Type 0
+Moves-right k [] = Unit {0}
+Moves-right k (l ∷ ls) = (moves-for k l ls ≡ moves (l .call) (shown k ls .stage (task (l .call))) (answer-of (l .reply))) × Moves-right k ls
+
+-- the policy was asked about a call, and is now q; `earlier` is what is known of the policy before it
+abbrev pub Asked : (k : Kind) → Call → (Policy-of k → Type 0) → Policy-of k → Type 0
+Asked k c earlier q =
+    (p : Policy-of k) × (r : Result Granted PolicyFault)
+    × record {
+      answer : r ≡ asked-answer (stated k .strict) c (stated k .facts p);
+      moved : Moved (stated k .after) (granted-move c) (refused-move c) p q r;
+    }
+    × earlier p
+
+-- a new policy was asked about the calls of some lines, newest first, and is now q
+abbrev pub Play : (k : Kind) → List Line → Policy-of k → Type 0
+Play k [] q = Fresh (stated k .facts q) × Made k q
+Play k (l ∷ ls) q = cond (asks l) (Asked k (l .call) (λ p. Play k ls p) q) (Play k ls q)
+
 -- a run of the calls of some lines, newest first, has left a policy at p
-pub record Reached (k : Kind) (ls : List Line) (p : Policy-of k) : Type 0 where
-  pub plain : all-plain ls ≡ true
-  pub right : Right-over k ls
+record Reached (k : Kind) (ls : List Line) (p : Policy-of k) : Type 0 where
   pub start : State (Policy-of k)
   pub end : State (Policy-of k)
   pub history : History
@@ -128,40 +126,23 @@ pub record Reached (k : Kind) (ls : List Line) (p : Policy-of k) : Type 0 where
   pub same : calls history ≡ line-calls ls
   pub policy : end .policy ≡ p
 
--- a new policy, before any call
-pub unplayed : (k : Kind) (p : Policy-of k) → Fresh (stated k .facts p) → Made k p → Reached k [] p
-unplayed k p fresh as-made = record {
-  plain = refl;
-  right = tt;
+unplayed : (k : Kind) (p : Policy-of k) → Fresh (stated k .facts p) → Made k p → Reached k [] p
+unplayed k p fresh made = record {
   start = new-table p;
   end = new-table p;
   history = [];
   new = record { fresh = fresh; stage = λ t. refl; pending = λ t v. refl; shared = λ v. refl };
-  made = as-made;
+  made = made;
   run = none-yet;
   same = refl;
   policy = refl;
 }
 
--- a row whose calls were played has a run
-pub has-run : (row : Row) (p : Policy-of (row .over)) → Reached (row .over) (reverse (row .lines)) p → Played row p
-has-run row p r = record {
-  start = r .start;
-  end = r .end;
-  history = r .history;
-  new = r .new;
-  made = r .made;
-  run = r .run;
-  calls = r .same;
-  policy = r .policy;
-}
-
-module _ {k : Kind} {ls : List Line} {p : Policy-of k} (so-far : Reached k ls p) where
+module _ (k : Kind) (ls : List Line) (e : all-plain ls ≡ true) (right : Right-over k ls) (p : Policy-of k) (so-far : Reached k ls p) where
   -- what the table shows so far
   shows : picture (held k) (so-far .end) ≡ shown k ls
   shows =
-      runs-over k ls (so-far .plain) (so-far .right) (so-far .start) (so-far .end) (so-far .history) (so-far .new) (so-far .made) (so-far .run) (so-far .same)
-      .ends
+      runs-over k ls e right (so-far .start) (so-far .end) (so-far .history) (so-far .new) (so-far .made) (so-far .run) (so-far .same) .ends
 
   -- the facts that the policy has so far
   facts-so-far : stated k .facts p ≡ meaning k (shown k ls .policy)
@@ -170,11 +151,9 @@ module _ {k : Kind} {ls : List Line} {p : Policy-of k} (so-far : Reached k ls p)
       ∙ ap (λ (x : State (Held k)). meaning k (x .policy)) shows
 
   -- one more call, for which the policy makes these moves
-  pub moved-on : (l : Line) (q : Policy-of k) → is-plain (l .call) ≡ true → Is (l .reply) (replied (meaning k) (stated k .strict) (l .call) (shown k ls))
+  moved-on : (l : Line) (q : Policy-of k) → plain (l .call) ≡ true → Is (l .reply) (replied (meaning k) (stated k .strict) (l .call) (shown k ls))
       → Chain (stated k .after) (moves (l .call) (shown k ls .stage (task (l .call))) (answer-of (l .reply))) p q → Reached k (l ∷ ls) q
   moved-on l q plain-call reply chain = record {
-    plain = both-so plain-call (so-far .plain);
-    right = (reply, so-far .right);
     start = so-far .start;
     end = continued (stated k .facts) (l .call) (answer-of (l .reply)) (so-far .end) q;
     history = record { call = l .call; answer = answer-of (l .reply); shared = _ } ∷ so-far .history;
@@ -186,9 +165,6 @@ module _ {k : Kind} {ls : List Line} {p : Policy-of k} (so-far : Reached k ls p)
     policy = refl;
   }
     where
-      both-so : {x y : Bool} → x ≡ true → y ≡ true → (x && y) ≡ true
-      both-so a b = rw (a, b)
-
       answered : answer-of (l .reply) ≡ replied (stated k .facts) (stated k .strict) (l .call) (so-far .end)
       answered =
           sym (replied-held k (l .call) (so-far .end) ∙ ap (replied (meaning k) (stated k .strict) (l .call)) shows
@@ -201,13 +177,47 @@ module _ {k : Kind} {ls : List Line} {p : Policy-of k} (so-far : Reached k ls p)
           (subst (λ (x : Policy-of k). Chain (stated k .after) (moves (l .call) (shown k ls .stage (task (l .call))) (answer-of (l .reply))) x q)
           (sym (so-far .policy)) chain)
 
-  -- one more call, as the policy answered it
-  pub played : (l : Line) (q : Policy-of k) (r : Result Granted PolicyFault)
-      → r ≡ asked-answer (stated k .strict) (l .call) (stated k .facts p) → Moved (stated k .after) (granted-move (l .call)) (refused-move (l .call)) p q r
-      → is-plain (l .call) ≡ true → Is (l .reply) (replied (meaning k) (stated k .strict) (l .call) (shown k ls))
-      → (Moved (stated k .after) (granted-move (l .call)) (refused-move (l .call)) p q (asked-answer (stated k .strict) (l .call) (meaning k (shown k ls .policy)))
-      → Chain (stated k .after) (moves (l .call) (shown k ls .stage (task (l .call))) (answer-of (l .reply))) p q)
-      → Reached k (l ∷ ls) q
-  played l q r answer move plain-call reply chain =
-      moved-on l q plain-call reply
-      (chain (subst (Moved (stated k .after) (granted-move (l .call)) (refused-move (l .call)) p q) (answer ∙ ap (asked-answer (stated k .strict) (l .call)) facts-so-far) move))
+  -- the moves that the policy's answer tells of, by the facts so far
+  told : (c : Call) (q : Policy-of k) (r : Result Granted PolicyFault) → r ≡ asked-answer (stated k .strict) c (stated k .facts p)
+      → Moved (stated k .after) (granted-move c) (refused-move c) p q r
+      → Chain (stated k .after) (told-moves (granted-move c) (refused-move c) (asked-answer (stated k .strict) c (meaning k (shown k ls .policy)))) p q
+  told c q r answer move =
+      told-chain (stated k .after) (granted-move c) (refused-move c) p q (asked-answer (stated k .strict) c (meaning k (shown k ls .policy)))
+      (subst (Moved (stated k .after) (granted-move c) (refused-move c) p q) (answer ∙ ap (asked-answer (stated k .strict) c) facts-so-far) move)
+
+one-line : (k : Kind) (l : Line) (ls : List Line) (q : Policy-of k) (asked : Bool) → all-plain (l ∷ ls) ≡ true → Right-over k (l ∷ ls)
+    → cond asked (told-moves (granted-move (l .call)) (refused-move (l .call)) (asked-answer (stated k .strict) (l .call) (meaning k (shown k ls .policy)))) []
+    ≡ moves (l .call) (shown k ls .stage (task (l .call))) (answer-of (l .reply))
+    → ((p : Policy-of k) → Play k ls p → Reached k ls p) → cond asked (Asked k (l .call) (λ p. Play k ls p) q) (Play k ls q) → Reached k (l ∷ ls) q
+one-line k l ls q true e right ms earlier play =
+    let both = both-true (plain (l .call)) (all-plain ls) e in
+    let so-far : Reached k ls (play .0) = earlier (play .0) (play .3) in
+    moved-on k ls (both .1) (right .1) (play .0) so-far l q (both .0) (right .0)
+    (subst (λ (l : List Move). Chain (stated k .after) l (play .0) q) ms
+    (told k ls (both .1) (right .1) (play .0) so-far (l .call) q (play .1) (play .2 .answer) (play .2 .moved)))
+one-line k l ls q false e right ms earlier play =
+    let both = both-true (plain (l .call)) (all-plain ls) e in
+    moved-on k ls (both .1) (right .1) q (earlier q play) l q (both .0) (right .0)
+    (subst (λ (l : List Move). Chain (stated k .after) l q q) ms refl)
+
+reached : (k : Kind) (ls : List Line) (q : Policy-of k) → all-plain ls ≡ true → Right-over k ls → Moves-right k ls → Play k ls q → Reached k ls q
+reached k [] q e right ms play = unplayed k q (play .0) (play .1)
+reached k (l ∷ ls) q e right ms play =
+    one-line k l ls q (asks l) e right (ms .0)
+    (λ p before. reached k ls p (both-true (plain (l .call)) (all-plain ls) e .1) (right .1) (ms .1) before) play
+
+-- a row whose calls a policy was asked about has a run
+pub has-run : (row : Row) → all-plain (reverse (row .lines)) ≡ true → Right-over (row .over) (reverse (row .lines))
+    → Moves-right (row .over) (reverse (row .lines)) → (p : Policy-of (row .over)) → Play (row .over) (reverse (row .lines)) p → Played row p
+has-run row e right ms p play =
+    let r = reached (row .over) (reverse (row .lines)) p e right ms play in
+    record {
+      start = r .start;
+      end = r .end;
+      history = r .history;
+      new = r .new;
+      made = r .made;
+      run = r .run;
+      calls = r .same;
+      policy = r .policy;
+    }

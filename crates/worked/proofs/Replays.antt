@@ -12,9 +12,11 @@ use Rattle.policy.specs.Facts.{Facts}
 use Rattle.policy.specs.Moves.{Move}
 use Rattle.policy.specs.Moves.{read as reads-variable}
 use Rattle.history.specs.Update.{at}
-use Rattle.history.specs.Calls.{Call, begin, read, write, collect, snapshot, commit, abort, task, Answer, done, value, values, refused, sent-wrongly, at-wrong-time, by-policy}
+use Rattle.history.specs.Calls.{Call, begin, read, write, collect, snapshot, commit, abort, task}
+use Rattle.history.specs.Calls.{Answer, done, value, values, refused, sent-wrongly, at-wrong-time, by-policy}
 use Rattle.history.specs.Answers.{Stage, granted, checked, wrong, untimely, barred}
-use Rattle.history.specs.Steps.{State, Chain, Reads-for, none-made, made, left-out, Step, answer, sees, first-moves, granted-reads, last-moves, stage-after, pending-after, shared-after}
+use Rattle.history.specs.Steps.{State, Chain, Reads-for, none-made, made, left-out, Step, answer, sees}
+use Rattle.history.specs.Steps.{first-moves, granted-reads, last-moves, stage-after, pending-after, shared-after}
 use Rattle.history.proofs.Logic.{not-both, at-same, at-other}
 
 -- the table with what its policy holds in place of the policy

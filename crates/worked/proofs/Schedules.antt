@@ -16,6 +16,11 @@ use Rattle.history.proofs.Logic.{both-true}
 use Rattle.worked.specs.Lines.{Reply, ok, the-value, refusal, Line, Is, Answers-are}
 use Rattle.worked.proofs.Replays.{picture, plain, replied, replayed, step-replied, step-replayed}
 
+-- a pair; what is shown of a list is shown of each line `and` of the next ones
+infixr 30 _and_
+abbrev pub _and_ : {A B : Type 0} → A → B → A × B
+a and b = (a, b)
+
 -- the answer that a reply states
 abbrev pub answer-of : Reply → Answer
 answer-of ok = done

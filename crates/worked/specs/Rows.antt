@@ -206,3 +206,8 @@ pub record Played (row : Row) (p : Policy-of (row .over)) : Type 0 where
 abbrev pub All-played : List Row → Type 0
 All-played [] = Unit {0}
 All-played (row ∷ more) = ((p : Policy-of (row .over)) × Played row p) × All-played more
+
+-- the ten schedules: every run of each is answered as its row says, and each has a run
+pub record Worked : Type 0 where
+  pub hold : All-hold rows
+  pub played : All-played rows

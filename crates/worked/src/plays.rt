@@ -1,5 +1,5 @@
 // The worked schedules, played on the policies themselves: each call that a table asks its policy, in order.
-ghost use Rattle.worked.specs.Rows.{Played};
+ghost use Rattle.worked.specs.Rows.{Played, Worked};
 ghost use Rattle.worked.specs.Rows.{locked, «both-read», «too-new», «newly-read», «behind-reads-on», «behind-is-barred», «behind-writer», «eagerly-barred», owned, renumbered};
 use clock::Clock;
 use clock::ClockPolicy;
@@ -12,7 +12,7 @@ use own::OwnPolicy;
 use policy::Policy;
 
 // The second reader of a variable is refused.
-pub(crate) fn play_locked() -> Lock
+fn play_locked() -> Lock
     ensures { λ r. ⌜ Played locked r ⌝ }
 {
     let mut policy = Lock::new();
@@ -24,7 +24,7 @@ pub(crate) fn play_locked() -> Lock
 }
 
 // Both read a variable.
-pub(crate) fn play_both_read() -> Own
+fn play_both_read() -> Own
     ensures { λ r. ⌜ Played «both-read» r ⌝ }
 {
     let mut policy = Own::new();
@@ -36,7 +36,7 @@ pub(crate) fn play_both_read() -> Own
 }
 
 // A task is refused what was committed since it began.
-pub(crate) fn play_too_new() -> Clock
+fn play_too_new() -> Clock
     ensures { λ r. ⌜ Played «too-new» r ⌝ }
 {
     let mut policy = Clock::new(0);
@@ -49,7 +49,7 @@ pub(crate) fn play_too_new() -> Clock
 }
 
 // A task reads what was committed since it began.
-pub(crate) fn play_newly_read() -> Own
+fn play_newly_read() -> Own
     ensures { λ r. ⌜ Played «newly-read» r ⌝ }
 {
     let mut policy = Own::new();
@@ -62,7 +62,7 @@ pub(crate) fn play_newly_read() -> Own
 }
 
 // A task that is behind reads on and commits.
-pub(crate) fn play_behind_reads_on() -> Clock
+fn play_behind_reads_on() -> Clock
     ensures { λ r. ⌜ Played «behind-reads-on» r ⌝ }
 {
     let mut policy = Clock::new(0);
@@ -77,7 +77,7 @@ pub(crate) fn play_behind_reads_on() -> Clock
 }
 
 // A task that is behind may not read on.
-pub(crate) fn play_behind_is_barred() -> Own
+fn play_behind_is_barred() -> Own
     ensures { λ r. ⌜ Played «behind-is-barred» r ⌝ }
 {
     let mut policy = Own::new();
@@ -91,7 +91,7 @@ pub(crate) fn play_behind_is_barred() -> Own
 }
 
 // A task that is behind may not commit what it wrote.
-pub(crate) fn play_behind_writer() -> Clock
+fn play_behind_writer() -> Clock
     ensures { λ r. ⌜ Played «behind-writer» r ⌝ }
 {
     let mut policy = Clock::new(0);
@@ -106,7 +106,7 @@ pub(crate) fn play_behind_writer() -> Clock
 }
 
 // The layer refuses the write of a task that is behind; its commit then comes too late for the policy to be asked.
-pub(crate) fn play_eagerly_barred() -> Eager<Clock>
+fn play_eagerly_barred() -> Eager<Clock>
     ensures { λ r. ⌜ Played «eagerly-barred» r ⌝ }
 {
     let clock = Clock::new(0);
@@ -121,7 +121,7 @@ pub(crate) fn play_eagerly_barred() -> Eager<Clock>
 }
 
 // The second writer of a variable is refused.
-pub(crate) fn play_owned() -> Own
+fn play_owned() -> Own
     ensures { λ r. ⌜ Played owned r ⌝ }
 {
     let mut policy = Own::new();
@@ -133,7 +133,7 @@ pub(crate) fn play_owned() -> Own
 }
 
 // The clock is renumbered at the commit, and the older task is refused as before.
-pub(crate) fn play_renumbered() -> Clock
+fn play_renumbered() -> Clock
     ensures { λ r. ⌜ Played renumbered r ⌝ }
 {
     let mut policy = Clock::new(4294967295);
@@ -143,4 +143,20 @@ pub(crate) fn play_renumbered() -> Clock
     let _ = policy.commit(1);
     let _ = policy.read(0, 5);
     policy
+}
+
+// Plays every schedule.
+pub(crate) fn play_all()
+    ensures { λ _. ⌜ Worked ⌝ }
+{
+    let _ = play_locked();
+    let _ = play_both_read();
+    let _ = play_too_new();
+    let _ = play_newly_read();
+    let _ = play_behind_reads_on();
+    let _ = play_behind_is_barred();
+    let _ = play_behind_writer();
+    let _ = play_eagerly_barred();
+    let _ = play_owned();
+    let _ = play_renumbered();
 }

@@ -1,22 +1,32 @@
-use mathlib.Core.Path.{refl}
-use lib.IntN.{pos}
-use Rattle.policy.specs.Facts.{some-below}
-use Rattle.clock.specs.Different.{among, different, different-below}
-use Rattle.clock.specs.Steps.{read-versions}
-use Rattle.history.specs.Calls.{begin, commit, read, write, single, read-barred, by-policy}
-use Rattle.worked.specs.Policies.{clock}
-use Rattle.worked.specs.Lines.{ok, refusal, _gives_}
 use Rattle.worked.specs.Rows.{renumbered}
-use Rattle.worked.proofs.Playing.{unplayed, played, has-run}
+use Rattle.worked.proofs.Worked.{plays, renumbered-worked}
 use Rattle.worked.proofs.plays.play_renumbered.Needs as need
 
 pub returns : need.returns
-unfolding some-below among different different-below read-versions
 returns c =
-    let start = unplayed (clock 4294967295) (c .new-policy .result) (c .new-policy .ensures .fresh) (c .new-policy .ensures .state) in
-    let first = played start (begin 0 gives ok) (c .begin .last .self) (c .begin .result) (c .begin .ensures .answer) (c .begin .ensures .moved) refl refl (λ h. (c .begin .last .self, h, refl)) in
-    let second = played first (begin 1 gives ok) (c .begin-2 .last .self) (c .begin-2 .result) (c .begin-2 .ensures .answer) (c .begin-2 .ensures .moved) refl refl (λ h. (c .begin-2 .last .self, h, refl)) in
-    let third = played second (write 1 5 (pos 7) gives ok) (c .write .last .self) (c .write .result) (c .write .ensures .answer) (c .write .ensures .moved) refl refl (λ h. (c .write .last .self, h, refl)) in
-    let fourth = played third (commit 1 gives ok) (c .commit .last .self) (c .commit .result) (c .commit .ensures .answer) (c .commit .ensures .moved) refl refl (λ h. (c .commit .last .self, h, refl)) in
-    let fifth = played fourth (read 0 5 gives refusal 20 (by-policy (read-barred single 5))) (c .read .last .self) (c .read .result) (c .read .ensures .answer) (c .read .ensures .moved) refl (refl, refl) (λ h. (c .read .last .self, h, refl)) in
-    has-run renumbered (c .read .last .self) fifth
+    plays renumbered renumbered-worked (c .read .last .self) (
+      c .commit .last .self,
+      c .read .result,
+      c .read .ensures,
+      (
+        c .write .last .self,
+        c .commit .result,
+        c .commit .ensures,
+        (
+          c .begin-2 .last .self,
+          c .write .result,
+          c .write .ensures,
+          (
+            c .begin .last .self,
+            c .begin-2 .result,
+            c .begin-2 .ensures,
+            (
+              c .new-policy .result,
+              c .begin .result,
+              c .begin .ensures,
+              (c .new-policy .ensures .fresh, c .new-policy .ensures .state),
+            ),
+          ),
+        ),
+      ),
+    )
