@@ -2,5 +2,6 @@
 pub mod calls;
 pub mod checks;
 pub mod fault;
+pub mod list;
 pub mod stage;
 pub mod table;
