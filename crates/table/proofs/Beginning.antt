@@ -21,7 +21,7 @@ use Rattle.table.specs.declared.stage.Stage.{Stage}
 use Rattle.table.specs.declared.stage.Stage.the-variants.{Idle, Open}
 use Rattle.table.proofs.Checking.{passed-ok, task-right}
 use Rattle.table.proofs.Stages.{put-set}
-use Rattle.table.proofs.Making.{plain-step}
+use Rattle.table.proofs.StepMaking.{plain-step}
 
 -- every value of an array of zeros is 0
 pub zero-at : (n v : ℕ) → getD (replicate n (pos 0)) v (pos 0) ≡ pos 0

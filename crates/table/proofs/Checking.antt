@@ -8,9 +8,9 @@ use mathlib.Core.Option.{Option, none, some}
 use lib.Dec.{ltb}
 use Rattle.std.specs.declared.result.Result.the-variants.{Ok, Err}
 use Rattle.std.proofs.shelf.Tests.{cases-bool}
-use Rattle.policy.specs.Limits.{tasks}
-use Rattle.history.specs.Calls.{Wrong, no-task, no-variable, single, listed, list-length, short-buffer, Untimely, not-idle, is-idle, is-broken, sent-wrongly, at-wrong-time}
-use Rattle.history.specs.Answers.{unless}
+use Rattle.policy.specs.Limits.{tasks, variables}
+use Rattle.history.specs.Calls.{read, Wrong, no-task, no-variable, single, listed, list-length, short-buffer, Untimely, not-idle, is-idle, is-broken, sent-wrongly, at-wrong-time}
+use Rattle.history.specs.Answers.{unless, wrong}
 use Rattle.table.specs.Faults.{refusal-of, wrong-fault, untimely-fault}
 use Rattle.table.specs.Checks.{passed, task-wrong}
 use Rattle.table.specs.declared.fault.TableFault.{TableFault}
@@ -67,3 +67,14 @@ no-such-task {f} t e = go (passed-err (task-wrong t) none e)
     go : ((x : Wrong) × (task-wrong t ≡ some x) × (f ≡ wrong-fault x)) ⊎ ((x : Untimely) × (task-wrong t ≡ none) × (none ≡ some x) × (f ≡ untimely-fault x)) → tasks ≤ t
     go (inl w) = task-beyond t (w .1)
     go (inr w) = let i = w .2 in let z : _≡_ {A = ℕ} 0 1 = cc in absurd (omega arith)
+
+-- there are such a task and such a variable
+pub access-right : (t v : ℕ) → wrong (read t v) ≡ none → (t < tasks) × (v < variables)
+access-right t v e = go (cases-bool (ltb t tasks))
+  where
+    go : (ltb t tasks ≡ true) ⊎ (ltb t tasks ≡ false) → (t < tasks) × (v < variables)
+    go (inl b) =
+        let k : unless (ltb v variables) (no-variable single) ≡ none = rw b at e in
+        let d : ltb v variables ≡ true = unless-none (ltb v variables) (no-variable single) k in
+        (grind arith, grind arith)
+    go (inr b) = let k : some no-task ≡ none = rw b at e in let z : _≡_ {A = ℕ} 0 1 = cc in absurd (omega arith)

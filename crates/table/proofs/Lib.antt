@@ -3,5 +3,11 @@ pub mod Unwritten
 pub mod ListChecks
 pub mod Checking
 pub mod Stages
-pub mod Making
+pub mod StepMaking
 pub mod Beginning
+pub mod Clearing
+pub mod NewTable
+pub mod Granting
+pub mod Accessing
+pub mod Sight
+pub mod Ending

@@ -1,10 +1,11 @@
 -- The checks that a call passes before the policy is asked, and the table's result by the first that fails.
 use Prim.Native.Nat.{ℕ}
+use mathlib.Core.Path.{_≡_}
 use mathlib.Core.List.{List}
 use mathlib.Core.Option.{Option, none, some}
 use lib.Dec.{ltb}
 use lib.IntN.{ℤ}
-use lib.ListN.{getD, set}
+use lib.ListN.{length, getD, set}
 use Rattle.std.specs.declared.result.Result.{Result}
 use Rattle.std.specs.declared.result.Result.the-variants.{Ok, Err}
 use Rattle.policy.specs.Limits.{tasks, variables}
@@ -53,3 +54,9 @@ abbrev pub with-pending : Stage → ℕ → ℤ → Stage
 with-pending Idle v x = Idle
 with-pending (Open pending) v x = Open (set pending v x)
 with-pending Broken v x = Broken
+
+-- a transaction has a place for a pending value of each variable
+abbrev pub Whole : Stage → Type 0
+Whole Idle = Unit {0}
+Whole (Open pending) = length pending ≡ variables
+Whole Broken = Unit {0}

@@ -11,10 +11,11 @@ use Rattle.policy.specs.Facts.{Facts}
 use Rattle.policy.specs.Moves.{Move}
 use Rattle.policy.specs.declared.Granted.{Granted}
 use Rattle.history.specs.Calls.{Call, Answer, done, value, refused, Refusal}
-use Rattle.history.specs.Answers.{Stage as History-stage, idle, active, broken}
+use Rattle.history.specs.Answers.{Stage as History-stage, idle, active, broken, look}
 use Rattle.history.specs.Steps.{State, Step}
 use Rattle.history.specs.Runs.{Sound}
 use Rattle.table.specs.Faults.{refusal-of}
+use Rattle.table.specs.declared.answer.Reading.{Reading}
 use Rattle.table.specs.declared.fault.TableFault.{TableFault}
 use Rattle.table.specs.declared.stage.Stage.{Stage}
 use Rattle.table.specs.declared.stage.Stage.the-variants.{Idle, Open, Broken}
@@ -43,6 +44,10 @@ state policy stages shared = record {
 abbrev pub view : {P : Type 0} → Table P → State P
 view s = state (s .policy) (s .stages) (s .shared)
 
+-- what task t sees in variable v of a table
+abbrev pub sight : {P : Type 0} → (P → Facts) → Table P → ℕ → ℕ → ℤ
+sight facts s t v = look (facts (s .policy)) (view s .pending) (view s .shared) t v
+
 -- a fault as an answer
 abbrev pub refusing : Option Refusal → Option Answer
 refusing none = none
@@ -52,6 +57,11 @@ refusing (some why) = some (refused why)
 abbrev pub done-or : Result Granted TableFault → Option Answer
 done-or (Ok granted) = some done
 done-or (Err f) = refusing (refusal-of f)
+
+-- the result of a read
+abbrev pub value-or : Result Reading TableFault → Option Answer
+value-or (Ok reading) = some (value (reading .value))
+value-or (Err f) = refusing (refusal-of f)
 
 module _ {P : Type 0} (facts : P → Facts) (after : P → Move → P → Type 0) (strict : Bool) where
   -- the call is a step of the histories' runs, and its answer is one that they know

@@ -2,11 +2,12 @@
 ghost use mathlib.Core.Path.{_≡_};
 ghost use Prim.Native.Nat.{_<_};
 ghost use mathlib.Core.Option.{none as nothing};
-ghost use lib.ListN.{getD};
+ghost use lib.ListN.{getD, length};
 ghost use Rattle.policy.specs.Limits.{tasks};
 ghost use Rattle.history.specs.Calls.{read as reading};
-ghost use Rattle.history.specs.Answers.{wrong};
+ghost use Rattle.history.specs.Answers.{wrong, «must-be-active»};
 ghost use Rattle.table.specs.Checks.{passed, «task-wrong», «call-untimely», «all-once-called»};
+ghost use Rattle.table.specs.Views.{«stage-of»};
 ghost use Rattle.table.specs.declared.stage.Stage.the-variants.{Idle as idle};
 use crate::fault::Place;
 use crate::fault::TableFault;
@@ -63,9 +64,24 @@ pub(crate) fn check_call(
     task: u8,
     call: Call,
 ) -> Result<(), TableFault>
+    ensures all { λ _. ⌜ length (now (stages .entry)) ≡ tasks ⌝ }
     ensures answer { λ r. ⌜ r ≡ passed («task-wrong» task) («call-untimely» call (getD (now (stages .entry)) task idle)) ⌝ }
     ensures moved { λ _. ⌜ now (stages .exit) ≡ «all-once-called» call task (now (stages .entry)) ⌝ }
 {
     check_task(task)?;
     admit(stages, task, call)
+}
+
+// Whether there are such a task and such a variable, and an access comes at the right time.
+pub(crate) fn check_access_call(
+    stages: &mut [Stage; TASKS],
+    task: u8,
+    variable: u8,
+) -> Result<(), TableFault>
+    ensures all { λ _. ⌜ length (now (stages .entry)) ≡ tasks ⌝ }
+    ensures answer { λ r. ⌜ r ≡ passed (wrong (reading task variable)) («must-be-active» («stage-of» (getD (now (stages .entry)) task idle))) ⌝ }
+    ensures same { λ _. ⌜ now (stages .exit) ≡ now (stages .entry) ⌝ }
+{
+    check_access(task, variable)?;
+    admit(stages, task, Call::Access)
 }

@@ -2,10 +2,11 @@
 ghost use mathlib.Core.Path.{_≡_};
 ghost use Prim.Native.Nat.{_<_};
 ghost use lib.IntN.{pos};
-ghost use lib.ListN.{replicate};
-ghost use Rattle.policy.specs.Limits.{variables};
-ghost use Rattle.table.specs.Checks.{«with-pending»};
+ghost use lib.ListN.{getD, length, replicate, set};
+ghost use Rattle.policy.specs.Limits.{tasks, variables};
+ghost use Rattle.table.specs.Checks.{«with-pending», Whole};
 ghost use Rattle.table.specs.Views.{«pending-in»};
+use crate::table::TASKS;
 use crate::table::VARIABLES;
 
 // A task without a transaction, in one with its pending values, or thrown out of one and not yet told to end it.
@@ -25,12 +26,19 @@ pub enum Call {
     Abort,
 }
 
+// A value of 0 for each variable.
+pub(crate) fn zeros() -> [i32; VARIABLES]
+    ensures { λ r. ⌜ r ≡ replicate variables (pos 0) ⌝ }
+{
+    [0; VARIABLES]
+}
+
 impl Stage {
     // A transaction that has just begun: nothing is pending.
     pub(crate) fn begun() -> Stage
         ensures { λ r. ⌜ r ≡ Stage.Open (replicate variables (pos 0)) ⌝ }
     {
-        Stage::Open([0; VARIABLES])
+        Stage::Open(zeros())
     }
 
     // The pending value of a variable: 0 where the task isn't in a transaction.
@@ -43,14 +51,24 @@ impl Stage {
             _ => 0,
         }
     }
+}
 
-    // Changes a pending value of a task in a transaction.
-    pub(crate) fn set_pending(&mut self, v: usize, value: i32)
-        requires { ⌜ v < variables ⌝ }
-        ensures { λ _. ⌜ now (self .exit) ≡ «with-pending» (now (self .entry)) v value ⌝ }
-    {
-        if let Stage::Open(pending) = self {
-            pending[v] = value;
-        }
+// Changes the value of one variable.
+fn set_value(values: &mut [i32; VARIABLES], variable: u8, value: i32)
+    requires { ⌜ variable < variables ⌝ }
+    ensures all { λ _. ⌜ length (now (values .entry)) ≡ variables ⌝ }
+    ensures changed { λ _. ⌜ now (values .exit) ≡ set (now (values .entry)) variable value ⌝ }
+{
+    values[variable as usize] = value;
+}
+
+// Changes a pending value of a task in a transaction.
+pub(crate) fn set_pending(stages: &mut [Stage; TASKS], task: u8, variable: u8, value: i32)
+    requires { ⌜ task < tasks ⌝ ∗ ⌜ variable < variables ⌝ }
+    ensures whole { λ _. ⌜ Whole (getD (now (stages .entry)) task Stage.Idle) ⌝ }
+    ensures changed { λ _. ⌜ now (stages .exit) ≡ set (now (stages .entry)) task («with-pending» (getD (now (stages .entry)) task Stage.Idle) variable value) ⌝ }
+{
+    if let Stage::Open(pending) = &mut stages[task as usize] {
+        set_value(pending, variable, value);
     }
 }

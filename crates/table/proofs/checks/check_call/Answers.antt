@@ -20,6 +20,7 @@ returns-in-Break-check-task c =
     let h : tasks ≤ c .args .task = no-such-task (c .args .task) e in
     let l : length (c .args .stages .now) ≤ c .args .task = omega arith in
     record {
+      all = omega arith;
       answer = rw (p .1, p .2) (passed-anyway (task-wrong (c .args .task)) (call-untimely (c .args .call) s) e);
       moved = sym (set-past (c .args .stages .now) (c .args .task) (once-called (c .args .call) s) l);
     }

@@ -76,12 +76,13 @@ module _ {P : Type 0} (facts : P → Facts) (after : P → Move → P → Type 0
       (λ v. pending v ∙ sym (ap (λ (f : ℕ → ℤ). f v) (u .pending (pending-in (getD xs (task c) Idle)))))
       (λ v. sym (ap (λ (f : ℕ → ℤ). f v) (u .shared (sees facts c (state p xs ss) p) (λ w. getD ss w (pos 0)))))
 
-  -- a call that the checks turned down; `late` is the stage that one at the wrong time leaves
+  -- a call that the checks turned down; s is the stage that it leaves
   pub refused-step : (c : Call) (f : TableFault) (p : P) (xs ys : List Stage) (s : Stage) (ss : List ℤ)
       → Err f ≡ passed (wrong c) (untimely c (stage-of (getD xs (task c) Idle)))
       → Put xs (task c) s ys
       → ((x : Wrong) → wrong c ≡ some x → s ≡ getD xs (task c) Idle)
-      → ((x : Untimely) → stage-of s ≡ stage-after c (refused (at-wrong-time x)) (stage-of (getD xs (task c) Idle)))
+      → ((x : Untimely) → untimely c (stage-of (getD xs (task c) Idle)) ≡ some x
+      → stage-of s ≡ stage-after c (refused (at-wrong-time x)) (stage-of (getD xs (task c) Idle)))
       → ((v : ℕ) → pending-in s v ≡ pending-in (getD xs (task c) Idle) v)
       → Makes facts after strict c (state p xs ss) (refusing (refusal-of f)) (state p ys ss)
   refused-step c f p xs ys s ss e put kept late pending = go (passed-err (wrong c) (untimely c before) e)
@@ -109,7 +110,7 @@ module _ {P : Type 0} (facts : P → Facts) (after : P → Move → P → Type 0
           let x = k .0 in let w = k .1 in let y = k .2 in let i = k .3 in
           made (at-wrong-time x) (ap refusal-of i ∙ untimely-refusal x)
           (unasked-step c (refused (at-wrong-time x)) p xs ys s ss (untimely-unasked c before x y) (sym (answer-is none (some x) w y)) put
-          (late x) pending)
+          (late x y) pending)
 
   -- a call that the checks turned down, and that leaves its task as it was
   pub unmoved-step : (c : Call) (f : TableFault) (p : P) (xs ys : List Stage) (ss : List ℤ)
@@ -120,7 +121,7 @@ module _ {P : Type 0} (facts : P → Facts) (after : P → Move → P → Type 0
   unmoved-step c f p xs ys ss e same late =
       subst (λ (zs : List Stage). Makes facts after strict c (state p xs ss) (refusing (refusal-of f)) (state p zs ss)) (sym same)
       (refused-step c f p xs xs (getD xs (task c) Idle) ss e (put-same xs (task c)) (λ x w. refl)
-      (λ x. sym (late x (stage-of (getD xs (task c) Idle)))) (λ v. refl))
+      (λ x y. sym (late x (stage-of (getD xs (task c) Idle)))) (λ v. refl))
 
   module _ (keeps : (p q : P) (m : Move) → after p m q → Keeps strict m (facts p) (facts q)) (proper : (p : P) → Proper (facts p)) where
     -- what a call makes of a sound table is sound
