@@ -1,6 +1,3 @@
-pub mod ListReads
-pub mod Unwritten
-pub mod ListChecks
 pub mod Checking
 pub mod Stages
 pub mod StepMaking
@@ -11,3 +8,6 @@ pub mod Granting
 pub mod Accessing
 pub mod Sight
 pub mod Ending
+pub mod ListChecks
+pub mod ListReads
+pub mod CollectSteps

@@ -13,15 +13,15 @@ use Rattle.policy.specs.Moves.{Move, read-refused}
 use Rattle.policy.specs.Moves.{read as reads-variable}
 use Rattle.policy.specs.declared.PolicyFault.the-variants.{ReadBarred}
 use Rattle.history.specs.Calls.{Answer, values, reply}
-use Rattle.history.specs.Answers.{look, first-barred}
+use Rattle.history.specs.Answers.{first-barred}
 use Rattle.history.specs.Steps.{Chain, Reads-for}
 use Rattle.table.specs.Faults.{refusal-of}
-use Rattle.table.specs.Views.{pending-in, refusing}
+use Rattle.table.specs.Views.{refusing, sight}
 use Rattle.table.specs.declared.fault.Place.the-variants.{Listed}
 use Rattle.table.specs.declared.fault.TableFault.{TableFault}
 use Rattle.table.specs.declared.fault.TableFault.the-variants.{Refused}
-use Rattle.table.specs.declared.list.Collected.{Collected}
-use Rattle.table.specs.declared.stage.Stage.{Stage}
+use Rattle.table.specs.declared.answer.Collected.{Collected}
+use Rattle.table.specs.declared.table.Table.{Table}
 
 -- the result of a call on a list as an answer: the values stand at the front of the reply buffer
 abbrev pub values-or : List ℕ → List ℤ → Result Collected TableFault → Option Answer
@@ -32,10 +32,6 @@ values-or vs buffer (Err f) = refusing (refusal-of f)
 abbrev pub replied : Option Answer → ℕ → List ℤ
 replied none room = replicate room (pos 0)
 replied (some r) room = reply r room
-
--- what task t sees in each variable, by its stage and the shared values
-abbrev pub seen : Facts → Stage → List ℤ → ℕ → ℕ → ℤ
-seen f stage shared = look f (λ u. pending-in stage) (λ v. getD shared v (pos 0))
 
 -- what the reads of a list leave in the buffer besides their values: all that lay past them, and zeros alone after a refusal
 abbrev pub Leaves : List ℕ → List ℤ → List ℤ → Result Collected TableFault → Type 0
@@ -62,11 +58,11 @@ module _ {P : Type 0} (facts : P → Facts) (after : P → Move → P → Type 0
     pub move : after before (read-refused t (getD vs place 0)) q
     pub told : f ≡ Refused (Listed place) (ReadBarred (getD vs place 0))
 
-  -- the reads of a list by task t, from the policy p to q; `see` gives the value of a variable, and the values stand in the buffer
-  abbrev pub Gathers : List ℕ → P → P → (ℕ → ℤ) → List ℤ → Result Collected TableFault → Type 0
-  Gathers vs p q see buffer (Ok c) = Granted-reads vs p q (c .reads) × (take (length vs) buffer ≡ map see vs)
-  Gathers vs p q see buffer (Err f) = Refused-read vs p q f
+  -- the reads of a list by task t of the table s, which leave the policy at q: the values stand at the front of the buffer
+  abbrev pub Gathers : List ℕ → Table P → P → List ℤ → Result Collected TableFault → Type 0
+  Gathers vs s q buffer (Ok c) = Granted-reads vs (s .policy) q (c .reads) × (take (length vs) buffer ≡ map (sight facts s t) vs)
+  Gathers vs s q buffer (Err f) = Refused-read vs (s .policy) q f
 
   -- what the reads of a list come to where task t is in a transaction
-  abbrev pub Reads-list : List ℕ → P → P → (ℕ → ℤ) → List ℤ → Result Collected TableFault → Type 0
-  Reads-list vs p q see buffer r = facts p .active t ≡ true → Gathers vs p q see buffer r
+  abbrev pub Reads-list : List ℕ → Table P → P → List ℤ → Result Collected TableFault → Type 0
+  Reads-list vs s q buffer r = facts (s .policy) .active t ≡ true → Gathers vs s q buffer r

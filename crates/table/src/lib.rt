@@ -2,6 +2,7 @@
 pub mod answer;
 pub mod calls;
 pub mod checks;
+pub mod collect;
 pub mod fault;
 pub mod list;
 pub mod making;

@@ -4,25 +4,20 @@ ghost use mathlib.Core.Option.{none as nothing};
 ghost use Prim.Native.Nat.{_<_, _≤_};
 ghost use lib.IntN.{pos};
 ghost use lib.ListN.{length, replicate};
-ghost use Rattle.policy.specs.Limits.{variables};
+ghost use Rattle.policy.specs.Limits.{tasks};
 ghost use Rattle.history.specs.Answers.{«first-wrong», «wrong-list», «longest-list»};
 ghost use Rattle.table.specs.Checks.{passed};
-ghost use Rattle.table.specs.Collect.{seen as sees, Leaves, «Reads-list»};
+ghost use Rattle.table.specs.Collect.{Leaves, «Reads-list»};
+use crate::answer::Collected;
 use crate::checks::check_task;
 use crate::fault::Place;
 use crate::fault::TableFault;
-use crate::stage::Stage;
+use crate::table::Table;
 use crate::table::VARIABLES;
 use policy::Policy;
 
 // How long a list of variables may be.
 pub const LONGEST_LIST: usize = 16;
-
-// What a collect or a snapshot tells besides the values: how many reads it made of the policy.
-#[derive(Clone, Copy, Debug, PartialEq, Eq)]
-pub struct Collected {
-    pub reads: usize,
-}
 
 // Clears a reply buffer.
 pub(crate) fn clear(reply: &mut [i32])
@@ -60,49 +55,35 @@ pub(crate) fn check_list(task: u8, list: &[u8], room: usize) -> Result<(), Table
     check_variables(list)
 }
 
-// The value that a task sees in a variable: the pending one if it has written it, else the shared one.
-pub(crate) fn seen<P: Policy>(
-    policy: &P,
-    stage: &Stage,
-    shared: &[i32; VARIABLES],
-    task: u8,
-    variable: u8,
-) -> i32
-    requires { ⌜ variable < variables ⌝ }
-    ensures { λ r. ⌜ r ≡ sees (P·Policy .facts (now (policy .entry))) (now (stage .entry)) (now (shared .entry)) task variable ⌝ }
-{
-    match policy.has_written(task, variable) {
-        Ok(true) => stage.pending(variable as usize),
-        Ok(false) => shared[variable as usize],
-        Err(_) => shared[variable as usize],
-    }
-}
-
-// Reads a list of variables, in order, into the front of a reply buffer. A refusal clears the buffer.
-pub(crate) fn read_list<P: Policy>(
-    policy: &mut P,
-    stage: &Stage,
-    shared: &[i32; VARIABLES],
-    task: u8,
-    list: &[u8],
-    reply: &mut [i32],
-) -> Result<Collected, TableFault>
-    requires short { ⌜ length (now list) ≤ «longest-list» ⌝ }
-    requires room { ⌜ length (now list) ≤ length (now reply) ⌝ }
-    requires named { ⌜ «first-wrong» 0 (now list) ≡ nothing ⌝ }
-    ensures reads { λ r. ⌜ «Reads-list» (P·Policy .facts) (P·Policy .after) task (now (list .entry)) (now (policy .entry)) (now (policy .exit)) (sees (P·Policy .facts (now (policy .entry))) (now (stage .entry)) (now (shared .entry)) task) (now (reply .exit)) r ⌝ }
-    ensures leaves { λ r. ⌜ Leaves (now (list .entry)) (now (reply .entry)) (now (reply .exit)) r ⌝ }
-{
-    let mut place = 0;
-    for variable in list {
-        match policy.read(task, *variable) {
-            Ok(_) => reply[place] = seen(policy, stage, shared, task, *variable),
-            Err(fault) => {
-                clear(reply);
-                return Err(TableFault::Refused(Place::Listed(place as u8), fault));
+impl<P: Policy> Table<P> {
+    // Reads a list of variables, in order, into the front of a reply buffer. A refusal clears the buffer.
+    pub(crate) fn read_list(
+        &mut self,
+        task: u8,
+        list: &[u8],
+        reply: &mut [i32],
+    ) -> Result<Collected, TableFault>
+        requires task { ⌜ task < tasks ⌝ }
+        requires short { ⌜ length (now list) ≤ «longest-list» ⌝ }
+        requires room { ⌜ length (now list) ≤ length (now reply) ⌝ }
+        requires named { ⌜ «first-wrong» 0 (now list) ≡ nothing ⌝ }
+        ensures reads { λ r. ⌜ «Reads-list» (P·Policy .facts) (P·Policy .after) task (now (list .entry)) (now (self .entry)) (now (self .exit) .policy) (now (reply .exit)) r ⌝ }
+        ensures leaves { λ r. ⌜ Leaves (now (list .entry)) (now (reply .entry)) (now (reply .exit)) r ⌝ }
+        ensures stages { λ _. ⌜ now (self .exit) .stages ≡ now (self .entry) .stages ⌝ }
+        ensures shared { λ _. ⌜ now (self .exit) .shared ≡ now (self .entry) .shared ⌝ }
+    {
+        let mut place = 0;
+        for variable in list {
+            let value = self.look(task, *variable);
+            match self.policy.read(task, *variable) {
+                Ok(_) => reply[place] = value,
+                Err(fault) => {
+                    clear(reply);
+                    return Err(TableFault::Refused(Place::Listed(place as u8), fault));
+                }
             }
+            place += 1;
         }
-        place += 1;
+        Ok(Collected { reads: place })
     }
-    Ok(Collected { reads: place })
 }
