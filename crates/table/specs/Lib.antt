@@ -3,3 +3,4 @@ pub mod Views
 pub mod Checks
 pub mod Collect
 pub mod Making
+pub mod Tickets
