@@ -1,8 +1,8 @@
 -- Granted reads, collects and writes.
-use Prim.Native.Nat.{ℕ, _<_, _≤_}
+use Prim.Native.Nat.{ℕ, _<_}
 use native.Mathlib.Omega.{arith}
 use mathlib.Core.Path.{_≡_, refl, sym, _∙_, ap, subst, fun-ext}
-use mathlib.Core.Bool.{Bool, true, false, cond}
+use mathlib.Core.Bool.{true, false, cond}
 use mathlib.Core.Logic.{_⊎_, inl, inr, _≢_}
 use mathlib.Core.List.{List, [], _∷_, _++_, map, List·Memᴰ, List·Memᴰ·head, List·Memᴰ·tail, Memᴰ·append-right}
 use mathlib.Core.Option.{Option, none, some}
@@ -12,7 +12,7 @@ use Rattle.history.specs.Steps.{zeros}
 use Rattle.history.specs.Transactions.{Access, put, Transaction, Ledger, calls, note, adds, longer, gots}
 use Rattle.history.specs.Alone.{nothing-pending, pend, seen, Exact, Answered}
 use Rattle.history.specs.Serial.{replay}
-use Rattle.history.specs.Law.{Stood, just, earlier, Rival}
+use Rattle.history.specs.Law.{just, earlier, Rival}
 use Rattle.history.proofs.Logic.{truth, not-both, at-same, at-other, at-elim, marked-value, marked-none, marked-off}
 use Rattle.history.proofs.Accesses.{Within, within-++, within-more, within-gots, Some-touches, exact-++, exact-gots, pend-++, pend-gots, answered-++, answered-left, answered-right, gots-answered, answered-gots, gots-touches}
 use Rattle.history.proofs.Orders.{replay-++, replay-kept}
@@ -21,7 +21,7 @@ use Rattle.history.proofs.GrantedReads.{Beside-all, beside-one}
 use Rattle.history.proofs.Effects.{Reads, Writes}
 use Rattle.history.proofs.Invariant.{Behind, Up-to-date, Held, Standing, Active, Invariant}
 use Rattle.history.proofs.Ledgers.{Grows, stood-below, settled-grows, further, adds-is, further-grows}
-use Rattle.history.proofs.Others.{unended-all, stays, keep-rival, undisturbed-standing, all-active, all-idle}
+use Rattle.history.proofs.Others.{unended-all, stays, keep-rival, undisturbed-standing, all-active, all-idle, same-order}
 
 -- what is known of a granted access of t, whose transaction is T
 pub record Goes-on (t : ℕ) (ds : List Access) (vs : List ℕ) (a b : View) (L : Ledger) (order : List Transaction) (T : Transaction) : Type 0 where
@@ -42,9 +42,11 @@ pub record Goes-on (t : ℕ) (ds : List Access) (vs : List ℕ) (a b : View) (L 
 
 module _ (t : ℕ) (ds : List Access) (vs : List ℕ) (a b : View) (L : Ledger) (order : List Transaction) (inv : Invariant a L order) (o : Active a L order t)
     (h : Goes-on t ds vs a b L order (o .transaction)) where
+  -- the transaction before the access
   abbrev T : Transaction
   T = o .transaction
 
+  -- and after it
   abbrev T′ : Transaction
   T′ = longer ds (calls L) T
 
@@ -145,22 +147,17 @@ module _ (t : ℕ) (ds : List Access) (vs : List ℕ) (a b : View) (L : Ledger) 
       }
 
   pub goes-on-keeps : Invariant b (note (adds t ds) (b .shared) L) order
-  goes-on-keeps = subst (λ (X : Ledger). Invariant b X order) (sym (adds-is t (b .shared) L ds T (o .is))) (record {
-    each-once = inv .each-once;
-    exact = inv .exact;
-    ends = inv .ends ∙ sym same-shared;
-    in-order = inv .in-order;
-    bounded = λ U m. let k = inv .bounded U m in omega arith;
-    latest = refl;
-    active = all-active b L′ order t inv (h .only) others each (λ l. record { transaction = T′; is = at-same (L .current) t (some T′); standing = standing });
-    idle = all-idle b L′ order t inv (h .only) others (λ l. absurd (not-both (h .active) l));
-    settled = λ U m. settled-grows grows (unended-all inv) (inv .settled U m);
-  })
+  goes-on-keeps = subst (λ (X : Ledger). Invariant b X order) (sym (adds-is t (b .shared) L ds T (o .is)))
+      (same-order inv grows refl (h .quiet .shared) refl
+      (all-active b L′ order t inv (h .only) others each (λ l. record { transaction = T′; is = at-same (L .current) t (some T′); standing = standing }))
+      (all-idle b L′ order t inv (h .only) others (λ l. absurd (not-both (h .active) l)))
+      (λ U m. settled-grows grows (unended-all inv) (inv .settled U m)))
 
 module _ (t : ℕ) (vs : List ℕ) (a b : View) (L : Ledger) (order : List Transaction) (inv : Invariant a L order) (step : Reads t vs a b) where
   abbrev mine : Active a L order t
   mine = inv .active t (step .rule .was)
 
+  -- the accesses so far, and the new ones
   abbrev D : List Access
   D = mine .transaction .accesses
 

@@ -2,14 +2,14 @@
 use Prim.Native.Nat.{ℕ, _<_}
 use native.Mathlib.Decide.{ℕ-discrete}
 use native.Mathlib.Omega.{arith}
-use mathlib.Core.Path.{_≡_, refl, sym, _∙_, ap, subst}
-use mathlib.Core.Logic.{_⊎_, inl, inr, _≢_}
+use mathlib.Core.Path.{_≡_, refl, sym, _∙_, ap}
+use mathlib.Core.Logic.{_⊎_, inl, inr}
 use mathlib.Core.List.{List, [], _∷_, _++_, map, List·Memᴰ, List·Memᴰ·head, List·Memᴰ·tail}
-use mathlib.Core.Option.{Option, none, some, Option·getD}
+use mathlib.Core.Option.{Option, none, some}
 use lib.IntN.{ℤ}
 use Rattle.history.specs.Update.{at}
 use Rattle.history.specs.Transactions.{Access, got, put, gots}
-use Rattle.history.specs.Alone.{nothing-pending, pend, seen, Exact, Answered, Touches}
+use Rattle.history.specs.Alone.{pend, seen, Exact, Answered, Touches}
 use Rattle.history.proofs.Logic.{at-other}
 
 pub pend-++ : (p : ℕ → Option ℤ) (ds es : List Access) → pend p (ds ++ es) ≡ pend (pend p ds) es
@@ -73,6 +73,7 @@ within-more k l [] g h = tt
 within-more k l (got n v x ∷ ds) g h = (omega arith, within-more k l ds g (h .1))
 within-more k l (put n v x ∷ ds) g h = (omega arith, within-more k l ds g (h .1))
 
+-- one of the accesses read or wrote v before call k
 abbrev pub Some-touches : ℕ → ℕ → List Access → Type 0
 Some-touches k v ds = (d : Access) × List·Memᴰ d ds × Touches k v d
 

@@ -1,24 +1,23 @@
 -- A granted begin, and a call that adds nothing.
-use Prim.Native.Nat.{ℕ, _<_, _≤_}
+use Prim.Native.Nat.{ℕ}
 use native.Mathlib.Omega.{arith}
-use mathlib.Core.Path.{_≡_, refl, sym, _∙_, ap, subst, fun-ext}
-use mathlib.Core.Bool.{Bool, true, false, cond}
+use mathlib.Core.Path.{_≡_, refl, sym, _∙_, ap, subst}
+use mathlib.Core.Bool.{true}
 use mathlib.Core.Logic.{_⊎_, inl, inr, _≢_}
-use mathlib.Core.List.{List, [], _∷_, List·Memᴰ}
-use mathlib.Core.Option.{Option, none, some}
-use lib.IntN.{ℤ}
+use mathlib.Core.List.{List}
+use mathlib.Core.Option.{some}
 use Rattle.policy.specs.Facts.{Facts, Touched as Taken}
 use Rattle.policy.specs.Moves.{Unchanged}
 use Rattle.history.specs.Transactions.{Transaction, Ledger, calls, note, nothing, opens, begun}
 use Rattle.history.specs.Alone.{nothing-pending, pend}
-use Rattle.history.specs.Law.{Stood, just, earlier, Had-touched, Rival}
+use Rattle.history.specs.Law.{just, Had-touched, Rival}
 use Rattle.history.proofs.Logic.{not-both, no-some, at-same, at-other, marked-some}
 use Rattle.history.proofs.Accesses.{answered-touches, pend-touches}
 use Rattle.history.proofs.Views.{View}
 use Rattle.history.proofs.Effects.{Idles, Begins}
 use Rattle.history.proofs.Invariant.{Standing, Active, Invariant}
 use Rattle.history.proofs.Ledgers.{Grows, rival-later, rival-grows, settled-grows, opens-grows, nothing-grows}
-use Rattle.history.proofs.Others.{unended-all, stays, keep-rival, Undisturbed, undisturbed-standing, all-active, all-idle}
+use Rattle.history.proofs.Others.{unended-all, stays, undisturbed-standing, all-active, all-idle, same-order}
 
 -- what an active task of the policy has touched, its transaction has
 pub taken-rival : {a : View} {L : Ledger} {order : List Transaction} → Invariant a L order → (t first w : ℕ) → Taken (a .facts) t w → Rival L t first (calls L) w
@@ -47,6 +46,7 @@ taken-rival {a} {L} {order} inv t first w h = record {
     ]
 
 module _ (t : ℕ) (a b : View) (L : Ledger) (order : List Transaction) (inv : Invariant a L order) (step : Begins t a b) where
+  -- the new transaction
   abbrev N : Transaction
   N = begun t (calls L)
 
@@ -97,17 +97,10 @@ module _ (t : ℕ) (a b : View) (L : Ledger) (order : List Transaction) (inv : I
   }
 
   pub begin-keeps : Invariant b L′ order
-  begin-keeps = record {
-    each-once = inv .each-once;
-    exact = inv .exact;
-    ends = inv .ends ∙ sym (fun-ext (step .quiet .shared));
-    in-order = inv .in-order;
-    bounded = λ U m. let k = inv .bounded U m in omega arith;
-    latest = refl;
-    active = all-active b L′ order t inv (step .rule .only) others each (λ l. record { transaction = N; is = at-same (L .current) t (some N); standing = standing });
-    idle = all-idle b L′ order t inv (step .rule .only) others (λ l. absurd (not-both (step .rule .active) l));
-    settled = λ U m. settled-grows grows (unended-all inv) (inv .settled U m);
-  }
+  begin-keeps = same-order inv grows refl (step .quiet .shared) refl
+      (all-active b L′ order t inv (step .rule .only) others each (λ l. record { transaction = N; is = at-same (L .current) t (some N); standing = standing }))
+      (all-idle b L′ order t inv (step .rule .only) others (λ l. absurd (not-both (step .rule .active) l)))
+      (λ U m. settled-grows grows (unended-all inv) (inv .settled U m))
 
 module _ (a b : View) (L : Ledger) (order : List Transaction) (inv : Invariant a L order) (step : Idles a b) where
   abbrev L″ : Ledger
@@ -134,15 +127,8 @@ module _ (a b : View) (L : Ledger) (order : List Transaction) (inv : Invariant a
       s
 
   pub idle-keeps : Invariant b L″ order
-  idle-keeps = record {
-    each-once = inv .each-once;
-    exact = inv .exact;
-    ends = inv .ends ∙ sym (fun-ext (step .shared));
-    in-order = inv .in-order;
-    bounded = λ U m. let k = inv .bounded U m in omega arith;
-    latest = refl;
-    active = λ u h. let l = sym (same (λ f. f .active u)) ∙ h in let o = inv .active u l in
-        record { transaction = o .transaction; is = o .is; standing = each-idle u (o .transaction) l (o .standing) };
-    idle = λ u h. inv .idle u (sym (same (λ f. f .active u)) ∙ h);
-    settled = λ U m. settled-grows grows-idle (unended-all inv) (inv .settled U m);
-  }
+  idle-keeps = same-order inv grows-idle refl (step .shared) refl
+      (λ u h. let l = sym (same (λ f. f .active u)) ∙ h in let o = inv .active u l in
+      record { transaction = o .transaction; is = o .is; standing = each-idle u (o .transaction) l (o .standing) })
+      (λ u h. inv .idle u (sym (same (λ f. f .active u)) ∙ h))
+      (λ U m. settled-grows grows-idle (unended-all inv) (inv .settled U m))

@@ -2,10 +2,10 @@
 use Prim.Native.Nat.{ℕ, _<_, _≤_}
 use native.Mathlib.Omega.{arith}
 use mathlib.Core.Path.{_≡_, refl, sym, _∙_, ap, subst, fun-ext}
-use mathlib.Core.Bool.{Bool, true, false, cond}
+use mathlib.Core.Bool.{Bool, true, false}
 use mathlib.Core.Logic.{_⊎_, inl, inr, _≢_}
 use mathlib.Core.List.{List, [], _∷_, _++_, append-nil, append-assoc, List·Memᴰ, List·Memᴰ·head, List·Memᴰ·tail, Memᴰ·append-left, List·Permᴰ, List·Permᴰ·cons, List·Permᴰ·trans, Permᴰ·middle, Permᴰ·append-nil}
-use mathlib.Core.Option.{Option, none, some}
+use mathlib.Core.Option.{none}
 use lib.IntN.{ℤ}
 use lib.ListN.{length}
 use Rattle.policy.specs.Moves.{Passed}
@@ -13,16 +13,16 @@ use Rattle.history.specs.Steps.{zeros}
 use Rattle.history.specs.Transactions.{committed, Transaction, Ledger, calls, note, ends, over-with}
 use Rattle.history.specs.Alone.{nothing-pending, pend, Exact, run-alone}
 use Rattle.history.specs.Serial.{all-committed, replay, All-exact, In-order}
-use Rattle.history.specs.Law.{Stood, just, earlier, One-moment, Rival}
+use Rattle.history.specs.Law.{Stood, just, earlier, Rival}
 use Rattle.history.proofs.Logic.{truth, not-both, no-some, contraposed, at-same, at-other, marked-value, marked-none, marked-some}
-use Rattle.history.proofs.Accesses.{pend-touches, exact-agree, exact-answered}
+use Rattle.history.proofs.Accesses.{pend-touches, exact-agree}
 use Rattle.history.proofs.Orders.{replay-++, exact-order-++, replay-insert, exact-insert, Silent, mem-++, mem-skip, order-insert, Cuts, earlier as cut-earlier, later as cut-later, cuts}
-use Rattle.history.proofs.Rules.{silent-behind}
-use Rattle.history.proofs.Views.{View, sight}
+use Rattle.history.proofs.Rules.{silent-behind, bars-kept, bars-gained}
+use Rattle.history.proofs.Views.{View}
 use Rattle.history.proofs.Effects.{Commits}
 use Rattle.history.proofs.Invariant.{Fences, Behind, Up-to-date, Standing, Settled, Latest, Active, Invariant}
 use Rattle.history.proofs.Ledgers.{Grows, touches-later, settled-grows, shut, ends-is, shut-grows}
-use Rattle.history.proofs.Others.{unended-all, Shift, All-shift, append-shift, keep-rival, keep-behind, keep-standing, Undisturbed, undisturbed-standing, all-active, all-idle}
+use Rattle.history.proofs.Others.{unended-all, Shift, All-shift, append-shift, keep-rival, keep-behind, keep-standing, undisturbed-standing, all-active, all-idle, end-moment}
 
 -- the newest moment is the shared values now
 pub newest : (ms : List (ℕ → ℤ)) (s : ℕ → ℤ) (k : ℕ) → Latest ms s → k < length ms → (i : ℕ) × Stood ms i s × (k ≤ i)
@@ -33,9 +33,11 @@ module _ (strict : Bool) (t : ℕ) (a b : View) (L : Ledger) (order : List Trans
   abbrev mine : Active a L order t
   mine = inv .active t (step .rule .was)
 
+  -- the transaction before the commit
   abbrev T : Transaction
   T = mine .transaction
 
+  -- and committed
   abbrev T′ : Transaction
   T′ = over-with committed (calls L) T
 
@@ -51,24 +53,10 @@ module _ (strict : Bool) (t : ℕ) (a b : View) (L : Ledger) (order : List Trans
   unpended : (v : ℕ) → a .facts .writes t v ≡ false → pend nothing-pending (T .accesses) v ≡ none
   unpended v e = marked-none (pend nothing-pending (T .accesses) v) (a .facts .writes t v) (a .pending t v) (mine .standing .pending v) e
 
-  -- the moment that T had within its life
-  moment-t : One-moment L′ T′
-  moment-t =
-      let h = mine .standing .held in
-      let k = mine .standing .lasted in
-      record {
-        moment = h .moment;
-        values = h .values;
-        stood = earlier (h .stood);
-        since = h .since;
-        until = omega (arith, h .until);
-        agree = λ v x r. exact-answered (h .values) nothing-pending (T .accesses) v x (h .exact) r;
-      }
-
   settled-t : Settled L′ T′
   settled-t = record {
     begun = let k = mine .standing .begun in omega arith;
-    moment = moment-t;
+    moment = end-moment t (b .shared) L committed T (mine .standing .held) (mine .standing .lasted);
     rival = λ asked passed e. absurd (let z : _≡_ {A = ℕ} 0 1 = cc in omega arith);
   }
 
@@ -91,7 +79,7 @@ module _ (strict : Bool) (t : ℕ) (a b : View) (L : Ledger) (order : List Trans
 
   -- what T wrote is fenced off from one now behind
   fences-t : (u : ℕ) → Passed t (a .facts) (b .facts) u → b .facts .behind u ≡ true → Fences b u T′
-  fences-t u p l v e = unpended v (contraposed (a .facts .writes t v) (b .facts .no-read u v) (p .fenced l .gains v) e)
+  fences-t u p l v e = unpended v (contraposed (a .facts .writes t v) (b .facts .no-read u v) (bars-gained p l v) e)
 
   -- The commit of a task that isn't behind: T stands last.
   module _ (prompt : a .facts .behind t ≡ false) where
@@ -158,7 +146,7 @@ module _ (strict : Bool) (t : ℕ) (a b : View) (L : Ledger) (order : List Trans
         let p : Passed t (a .facts) (b .facts) u = step .rule .others u ne active in
         keep-standing grows (unended-all inv) (p .sets .reads) (p .sets .writes) (step .pending u ne) (still-up-to-date u U ne p s)
         (λ l. elim (truth (a .facts .behind u)) [
-          | inl h ↦ keep-behind grows (unended-all inv) (s .begun) (p .fenced l .kept) (append-shift b u (U .first) order T′ (fences-t u p l) (λ k. omega (arith, s .begun))) (s .behind h)
+          | inl h ↦ keep-behind grows (unended-all inv) (s .begun) (bars-kept p l) (append-shift b u (U .first) order T′ (fences-t u p l) (λ k. omega (arith, s .begun))) (s .behind h)
           | inr h ↦ put-behind u U ne p s l h
         ])
         s
@@ -237,7 +225,7 @@ module _ (strict : Bool) (t : ℕ) (a b : View) (L : Ledger) (order : List Trans
           writes = p .sets .writes;
           pending = step .pending u ne;
           behind = silent-behind p unwritten;
-          no-read-kept = λ l. p .fenced (p .stays-behind l) .kept;
+          no-read-kept = λ l. bars-kept p (p .stays-behind l);
           no-read-new = λ l w e. elim (p .near l .no-read w e) [ inl h ↦ inl h | inr h ↦ absurd (not-both h (unwritten w)) ];
           no-write-new = λ l w e. elim (p .near l .no-write w e) [ inl h ↦ inl h | inr h ↦ absurd (not-both h (unwritten w)) ];
         })

@@ -16,6 +16,7 @@ pub record Idles (a b : View) : Type 0 where
   pub shared : (v : ℕ) → b .shared v ≡ a .shared v
   pub pending : (u : ℕ) → a .facts .active u ≡ true → (v : ℕ) → b .pending u v ≡ a .pending u v
 
+-- a granted begin
 pub record Begins (t : ℕ) (a b : View) : Type 0 where
   pub rule : Begun t (a .facts) (b .facts)
   pub quiet : Quiet t a b
@@ -26,12 +27,14 @@ pub record Reads (t : ℕ) (vs : List ℕ) (a b : View) : Type 0 where
   pub quiet : Quiet t a b
   pub pending : (v : ℕ) → b .pending t v ≡ a .pending t v
 
+-- a granted write
 pub record Writes (t v : ℕ) (x : ℤ) (a b : View) : Type 0 where
   pub rule : Has-written t v (a .facts) (b .facts)
   pub quiet : Quiet t a b
   pub put : b .pending t v ≡ x
   pub kept : (w : ℕ) → w ≢ v → b .pending t w ≡ a .pending t w
 
+-- a granted commit
 pub record Commits (strict : Bool) (t : ℕ) (a b : View) : Type 0 where
   pub rule : Committed strict t (a .facts) (b .facts)
   -- one that is behind has written nothing
@@ -39,6 +42,7 @@ pub record Commits (strict : Bool) (t : ℕ) (a b : View) : Type 0 where
   pub shared : (v : ℕ) → b .shared v ≡ sight a t v
   pub pending : (u : ℕ) → u ≢ t → (v : ℕ) → b .pending u v ≡ a .pending u v
 
+-- an abort of a task that is in a transaction
 pub record Aborts (t : ℕ) (a b : View) : Type 0 where
   pub rule : Ended t (a .facts) (b .facts)
   pub quiet : Quiet t a b
@@ -51,11 +55,13 @@ pub record Bars-read (t v : ℕ) (vs : List ℕ) (a b : View) : Type 0 where
   pub rule : Ended t between (b .facts)
   pub quiet : Quiet t a b
 
+-- the write of v is refused
 pub record Bars-write (t v : ℕ) (a b : View) : Type 0 where
   pub barred : a .facts .no-write t v ≡ true
   pub rule : Ended t (a .facts) (b .facts)
   pub quiet : Quiet t a b
 
+-- the commit is refused
 pub record Bars-commit (t : ℕ) (a b : View) : Type 0 where
   pub behind : a .facts .behind t ≡ true
   pub rule : Ended t (a .facts) (b .facts)

@@ -1,26 +1,27 @@
 -- A transaction that ends without a commit: an abort, or a refusal of the policy.
-use Prim.Native.Nat.{ℕ, _<_, _≤_}
+use Prim.Native.Nat.{ℕ, _<_}
 use native.Mathlib.Omega.{arith}
-use mathlib.Core.Path.{_≡_, refl, sym, _∙_, ap, subst, fun-ext}
-use mathlib.Core.Bool.{Bool, true, false, cond}
+use mathlib.Core.Path.{_≡_, refl, sym, _∙_, subst}
+use mathlib.Core.Bool.{true, false}
 use mathlib.Core.Logic.{_⊎_, inl, inr, _≢_}
-use mathlib.Core.List.{List, [], _∷_, List·Memᴰ, List·Memᴰ·head, List·Memᴰ·tail, List·Permᴰ}
+use mathlib.Core.List.{List, [], _∷_, List·Memᴰ, List·Memᴰ·head, List·Memᴰ·tail}
 use mathlib.Core.Option.{Option, none, some}
 use lib.IntN.{ℤ}
 use Rattle.policy.specs.Facts.{Facts}
-use Rattle.policy.specs.Moves.{Only, Others, Spared, Ended}
+use Rattle.policy.specs.Moves.{Only, Others, Spared}
 use Rattle.history.specs.Transactions.{Fate, aborted, policy-refused, Transaction, Ledger, calls, note, ends, over-with}
-use Rattle.history.specs.Alone.{nothing-pending, pend, Shared-answer}
+use Rattle.history.specs.Alone.{nothing-pending, Shared-answer}
 use Rattle.history.specs.Serial.{if-committed, all-committed}
-use Rattle.history.specs.Law.{earlier, Listed, Had-touched, Rival, Has-rival}
+use Rattle.history.specs.Law.{Listed, Rival}
 use Rattle.history.proofs.Logic.{truth, not-both, at-same, at-other}
-use Rattle.history.proofs.Accesses.{exact-answered, pend-touches}
+use Rattle.history.proofs.Accesses.{pend-touches}
+use Rattle.history.proofs.Rules.{bars-spared}
 use Rattle.history.proofs.Views.{View, Quiet}
 use Rattle.history.proofs.GrantedReads.{Beside-all}
 use Rattle.history.proofs.Effects.{Aborts, Bars-read, Bars-write, Bars-commit}
-use Rattle.history.proofs.Invariant.{Behind, Up-to-date, Standing, Settled, Active, Invariant}
+use Rattle.history.proofs.Invariant.{Behind, Standing, Settled, Active, Invariant}
 use Rattle.history.proofs.Ledgers.{Grows, touches-later, rival-grows, settled-grows, shut, ends-is, shut-grows}
-use Rattle.history.proofs.Others.{unended-all, stays, undisturbed-standing, all-active, all-idle}
+use Rattle.history.proofs.Others.{unended-all, stays, undisturbed-standing, all-active, all-idle, end-moment, same-order}
 
 -- another active task u, after t was granted the reads of vs and then ended
 pub record Relieved (vs : List ℕ) (f g : Facts) (u : ℕ) : Type 0 where
@@ -36,7 +37,7 @@ spared s = record {
   reads = s .sets .reads;
   writes = s .sets .writes;
   behind = s .behind;
-  no-read-kept = s .fenced;
+  no-read-kept = bars-spared s;
   no-read-new = λ w e. inl (s .no-read w e);
   no-write-new = λ w e. inl (s .no-write w e);
 }
@@ -46,7 +47,7 @@ beside-spared p s = record {
   reads = λ w. s .sets .reads w ∙ p .reads w;
   writes = λ w. s .sets .writes w ∙ p .writes w;
   behind = s .behind ∙ p .behind;
-  no-read-kept = λ l w e. s .fenced (p .behind ∙ l) w (p .no-read-kept w e);
+  no-read-kept = λ l w e. bars-spared s (p .behind ∙ l) w (p .no-read-kept w e);
   no-read-new = λ w e. p .no-read-new w (s .no-read w e);
   no-write-new = λ w e. p .no-write-new w (s .no-write w e);
 }
@@ -69,9 +70,11 @@ pub record Ends-with (t : ℕ) (z : Fate) (vs : List ℕ) (a b : View) (L : Ledg
 
 module _ (t : ℕ) (z : Fate) (vs : List ℕ) (a b : View) (L : Ledger) (order : List Transaction) (inv : Invariant a L order) (o : Active a L order t)
     (h : Ends-with t z vs a b L (o .transaction)) where
+  -- the transaction before its end
   abbrev T : Transaction
   T = o .transaction
 
+  -- and ended
   abbrev T′ : Transaction
   T′ = over-with z (calls L) T
 
@@ -87,14 +90,7 @@ module _ (t : ℕ) (z : Fate) (vs : List ℕ) (a b : View) (L : Ledger) (order :
   settled-t : Settled L′ T′
   settled-t = record {
     begun = let k = o .standing .begun in omega arith;
-    moment = let r = o .standing .held in let k = o .standing .lasted in record {
-      moment = r .moment;
-      values = r .values;
-      stood = earlier (r .stood);
-      since = r .since;
-      until = omega (arith, r .until);
-      agree = λ v x q. exact-answered (r .values) nothing-pending (T .accesses) v x (r .exact) q;
-    };
+    moment = end-moment t (b .shared) L z T (o .standing .held) (o .standing .lasted);
     rival = λ q ps e. let r = h .because q ps e in record {
       variable = r .variable;
       wanted = elim (r .wanted) [ inl k ↦ inl k | inr k ↦ inr (inl k) ];
@@ -135,17 +131,11 @@ module _ (t : ℕ) (z : Fate) (vs : List ℕ) (a b : View) (L : Ledger) (order :
       s
 
   pub ends-keeps : Invariant b (note (ends t z) (b .shared) L) order
-  ends-keeps = subst (λ (X : Ledger). Invariant b X order) (sym (ends-is t (b .shared) L z T (o .is))) (record {
-    each-once = subst (λ (r : List Transaction). List·Permᴰ order r) (sym (h .unshared T′ (all-committed (L .ended)))) (inv .each-once);
-    exact = inv .exact;
-    ends = inv .ends ∙ sym (fun-ext (h .quiet .shared));
-    in-order = inv .in-order;
-    bounded = λ U m. let k = inv .bounded U m in omega arith;
-    latest = refl;
-    active = all-active b L′ order t inv (h .only) others each (λ l. absurd (not-both l (h .gone)));
-    idle = all-idle b L′ order t inv (h .only) others (λ l. at-same (L .current) t none);
-    settled = all-settled;
-  })
+  ends-keeps = subst (λ (X : Ledger). Invariant b X order) (sym (ends-is t (b .shared) L z T (o .is)))
+      (same-order inv grows (h .unshared T′ (all-committed (L .ended))) (h .quiet .shared) refl
+      (all-active b L′ order t inv (h .only) others each (λ l. absurd (not-both l (h .gone))))
+      (all-idle b L′ order t inv (h .only) others (λ l. at-same (L .current) t none))
+      all-settled)
 
 -- which variable a refusal holds
 same-asked : {q q′ : Option ℕ} {ps ps′ : List ℕ} → policy-refused q ps ≡ policy-refused q′ ps′ → q ≡ q′

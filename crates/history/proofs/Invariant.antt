@@ -5,13 +5,13 @@
 -- from the shared values still stands there, so it could stand last. A task that is behind can't stand last any more, but it
 -- could have stood at the moment before the commit that put it behind; since then nothing was committed that it may still read.
 use Prim.Native.Nat.{ℕ, _<_, _≤_}
-use mathlib.Core.Path.{_≡_, refl}
-use mathlib.Core.Bool.{Bool, true, false, cond}
+use mathlib.Core.Path.{_≡_}
+use mathlib.Core.Bool.{true, false, cond}
 use mathlib.Core.List.{List, [], _∷_, _++_, List·Memᴰ, List·Permᴰ}
 use mathlib.Core.Option.{Option, none, some}
 use lib.IntN.{ℤ}
 use Rattle.history.specs.Steps.{zeros}
-use Rattle.history.specs.Transactions.{Fate, unended, policy-refused, Transaction, Ledger, calls}
+use Rattle.history.specs.Transactions.{unended, policy-refused, Transaction, Ledger, calls}
 use Rattle.history.specs.Alone.{nothing-pending, pend, Exact, Shared-answer}
 use Rattle.history.specs.Serial.{all-committed, replay, All-exact, In-order}
 use Rattle.history.specs.Law.{Stood, One-moment, Rival, Has-rival}
@@ -95,6 +95,7 @@ pub record Active (a : View) (L : Ledger) (order : List Transaction) (t : ℕ) :
   pub is : L .current t ≡ some transaction
   pub standing : Standing a L order t transaction
 
+-- The invariant: the order of the committed transactions, what each task has now, and what has ended.
 pub record Invariant (a : View) (L : Ledger) (order : List Transaction) : Type 0 where
   -- The committed transactions stand in a serial order.
   pub each-once : List·Permᴰ order (all-committed (L .ended))

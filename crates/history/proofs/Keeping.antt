@@ -2,24 +2,22 @@
 use Prim.Native.Nat.{ℕ}
 use mathlib.Core.Path.{_≡_, refl, sym, _∙_, ap, subst}
 use mathlib.Core.Bool.{Bool, true, false}
-use mathlib.Core.Logic.{_⊎_, inl, inr, _≢_}
 use mathlib.Core.List.{List, [], _∷_, map}
-use mathlib.Core.Option.{Option, none, some}
+use mathlib.Core.Option.{none, some}
 use lib.IntN.{ℤ}
 use lib.ListN.{take}
 use Rattle.policy.specs.Facts.{Facts, may-read, may-write, may-commit, Proper}
 use Rattle.policy.specs.Moves.{Move, Begun, Has-written, Ended, Refused, Committed, Keeps, read-refused, write-refused, commit-refused}
 use Rattle.policy.specs.Moves.{begin as begins, read as reads-variable, write as writes-variable, commit as commits, abort as aborts}
-use Rattle.history.specs.Calls.{Call, begin, read, write, collect, snapshot, commit, abort, task, single, listed, Barred, read-barred, write-barred, commit-barred, by-policy, Answer, done, refused}
-use Rattle.history.specs.Answers.{Stage, idle, active, broken, untimely, barred, granted, must-not-be-idle}
+use Rattle.history.specs.Calls.{Call, begin, read, write, collect, snapshot, commit, abort, task, single, Barred, read-barred, write-barred, commit-barred, by-policy, Answer, done, refused}
+use Rattle.history.specs.Answers.{Stage, idle, active, broken, granted, must-not-be-idle}
 use Rattle.history.specs.Steps.{State, Chain, Reads-for, Step, sees, abort-moves}
 use Rattle.history.specs.Transactions.{Addition, adds, ends, Transaction, Ledger, aborted, policy-refused, calls, gots, note, addition}
 use Rattle.history.specs.Runs.{in-transaction, Sound}
 use Rattle.history.proofs.Logic.{not-both, no-some, at-same, at-other, not-false}
 use Rattle.history.proofs.Rules.{commit-silent, commit-behind, read-bar}
-use Rattle.history.proofs.Views.{View, view, sight, Quiet}
+use Rattle.history.proofs.Views.{view, sight, Quiet}
 use Rattle.history.proofs.GrantedReads.{Read-all, made-reads}
-use Rattle.history.proofs.Effects.{Reads, Bars-read}
 use Rattle.history.proofs.Invariant.{Invariant}
 use Rattle.history.proofs.Ledgers.{ends-nothing}
 use Rattle.history.proofs.Begin.{begin-keeps, idle-keeps}
@@ -27,7 +25,7 @@ use Rattle.history.proofs.Access.{reads-keeps, write-keeps}
 use Rattle.history.proofs.Commit.{commit-keeps}
 use Rattle.history.proofs.End.{abort-keeps, bar-read-keeps, bar-write-keeps, bar-commit-keeps}
 use Rattle.history.proofs.Snapshot.{snap-keeps, bar-snap-keeps}
-use Rattle.history.proofs.Outcomes.{is-active, the-bar, the-place, Unasked, wrong-unasked, untimely-unasked, one-move, last-alone, unasked-policy, all-pending, unasked-pending, unasked-shared, by-answer}
+use Rattle.history.proofs.Outcomes.{is-active, the-bar, the-place, Unasked, one-move, last-alone, unasked-policy, all-pending, unasked-pending, unasked-shared, by-answer}
 
 module _ {P : Type 0} (facts : P → Facts) (after : P → Move → P → Type 0) (strict : Bool)
     (keeps : (p q : P) (m : Move) → after p m q → Keeps strict m (facts p) (facts q)) where
@@ -55,18 +53,8 @@ module _ {P : Type 0} (facts : P → Facts) (after : P → Move → P → Type 0
         })),
   )
 
-  -- a case for a refusal of the policy, and one for a granted call
-  cases : (c : Call) (r : Answer) (s : Step facts after strict c a r b)
-      → ((x : Barred) → untimely c (a .stage (task c)) ≡ none
-      → (p : P) → barred strict (facts p) c ≡ some x → Step facts after strict c a (refused (by-policy x)) b → Kept c (refused (by-policy x)))
-      → ((p : P) (k : ℕ) → untimely c (a .stage (task c)) ≡ none
-      → (s′ : Step facts after strict c a (granted (sees facts c a p) k c) b) → s′ .opened ≡ p → Kept c (granted (sees facts c a p) k c))
-      → Kept c r
-  cases c r s = by-answer facts after strict s (Kept c)
-      (λ x. unasked c _ (wrong-unasked c (a .stage (task c)) x)) (λ x e. unasked c _ (untimely-unasked c (a .stage (task c)) x e))
-
   begin-kept : (t : ℕ) (r : Answer) → Step facts after strict (begin t) a r b → Kept (begin t) r
-  begin-kept t r s = cases (begin t) r s
+  begin-kept t r s = by-answer facts after strict s (Kept (begin t)) (unasked (begin t))
       (λ x y p z s′. absurd (no-some refl z))
       (λ p k y s′ e.
       let h : Begun t (facts (a .policy)) (facts (b .policy)) =
@@ -112,7 +100,7 @@ module _ {P : Type 0} (facts : P → Facts) (after : P → Move → P → Type 0
         })
 
   read-kept : (t v : ℕ) (r : Answer) → Step facts after strict (read t v) a r b → Kept (read t v) r
-  read-kept t v r s = cases (read t v) r s
+  read-kept t v r s = by-answer facts after strict s (Kept (read t v)) (unasked (read t v))
       (λ x y p z. subst (λ (why : Barred). Step facts after strict (read t v) a (refused (by-policy why)) b → Kept (read t v) (refused (by-policy why)))
       (the-bar (may-read (facts p) t v) (read-barred single v) x z) (λ s′. (
         order,
@@ -126,7 +114,7 @@ module _ {P : Type 0} (facts : P → Facts) (after : P → Move → P → Type 0
       ))
 
   collect-kept : (t : ℕ) (vs : List ℕ) (room : ℕ) (r : Answer) → Step facts after strict (collect t vs room) a r b → Kept (collect t vs room) r
-  collect-kept t vs room r s = cases c r s
+  collect-kept t vs room r s = by-answer facts after strict s (Kept c) (unasked c)
       (λ x y p z. let w = the-place (facts p) t 0 vs x z in
       subst (λ (why : Barred). Step facts after strict c a (refused (by-policy why)) b → Kept c (refused (by-policy why))) (w .2) (λ s′. (
         order,
@@ -143,7 +131,7 @@ module _ {P : Type 0} (facts : P → Facts) (after : P → Move → P → Type 0
       c = collect t vs room
 
   write-kept : (t v : ℕ) (x : ℤ) (r : Answer) → Step facts after strict (write t v x) a r b → Kept (write t v x) r
-  write-kept t v x r s = cases (write t v x) r s
+  write-kept t v x r s = by-answer facts after strict s (Kept (write t v x)) (unasked (write t v x))
       (λ w y p z. subst (λ (why : Barred). Step facts after strict (write t v x) a (refused (by-policy why)) b → Kept (write t v x) (refused (by-policy why)))
       (the-bar (may-write (facts p) t v) (write-barred v) w z) (λ s′.
       let h : Refused (may-write (facts (a .policy)) t v) t (facts (a .policy)) (facts (b .policy)) =
@@ -168,7 +156,7 @@ module _ {P : Type 0} (facts : P → Facts) (after : P → Move → P → Type 0
       ))
 
   commit-kept : (t : ℕ) (r : Answer) → Step facts after strict (commit t) a r b → Kept (commit t) r
-  commit-kept t r s = cases (commit t) r s
+  commit-kept t r s = by-answer facts after strict s (Kept (commit t)) (unasked (commit t))
       (λ x y p z. subst (λ (why : Barred). Step facts after strict (commit t) a (refused (by-policy why)) b → Kept (commit t) (refused (by-policy why)))
       (the-bar (may-commit strict (facts p) t) commit-barred x z) (λ s′.
       let h : Refused (may-commit strict (facts (a .policy)) t) t (facts (a .policy)) (facts (b .policy)) =
@@ -191,7 +179,7 @@ module _ {P : Type 0} (facts : P → Facts) (after : P → Move → P → Type 0
       }))
 
   abort-kept : (t : ℕ) (r : Answer) → Step facts after strict (abort t) a r b → Kept (abort t) r
-  abort-kept t r s = cases (abort t) r s
+  abort-kept t r s = by-answer facts after strict s (Kept (abort t)) (unasked (abort t))
       (λ x y p z s′. absurd (no-some refl z))
       (λ p k y s′ e. at-stage (a .stage t) refl y s′)
     where
@@ -222,7 +210,7 @@ module _ {P : Type 0} (facts : P → Facts) (after : P → Move → P → Type 0
           )
 
   snapshot-kept : (t : ℕ) (vs : List ℕ) (room : ℕ) (r : Answer) → Step facts after strict (snapshot t vs room) a r b → Kept (snapshot t vs room) r
-  snapshot-kept t vs room r s = cases c r s
+  snapshot-kept t vs room r s = by-answer facts after strict s (Kept c) (unasked c)
       (λ x y p z. let w = the-place (facts p) t 0 vs x z in
       subst (λ (why : Barred). Step facts after strict c a (refused (by-policy why)) b → Kept c (refused (by-policy why))) (w .2) (λ s′.
       let g : Begun t (facts (a .policy)) (facts (s′ .opened)) = begun s′ (s′ .opening) in

@@ -3,15 +3,15 @@ use Prim.Native.Nat.{ℕ, _<_, _≤_}
 use native.Mathlib.Decide.{ℕ-discrete}
 use native.Mathlib.Omega.{arith}
 use mathlib.Core.Path.{_≡_, refl, sym, _∙_, ap, subst, fun-ext}
-use mathlib.Core.Logic.{_⊎_, inl, inr, _≢_}
-use mathlib.Core.List.{List, [], _∷_, _++_, List·Memᴰ, List·Memᴰ·head, List·Memᴰ·tail, Memᴰ·append-left}
+use mathlib.Core.Logic.{_⊎_, inl, inr}
+use mathlib.Core.List.{List, _∷_, List·Memᴰ, List·Memᴰ·head, List·Memᴰ·tail, Memᴰ·append-left}
 use mathlib.Core.Option.{Option, none, some}
 use lib.IntN.{ℤ}
 use lib.ListN.{length}
 use Rattle.history.specs.Update.{at}
-use Rattle.history.specs.Transactions.{Access, got, put, Fate, unended, Transaction, Ledger, calls, Addition, nothing, opens, adds, ends, whole, note, begun, longer, over-with, grown, closed}
+use Rattle.history.specs.Transactions.{Access, got, put, Fate, unended, Transaction, Ledger, calls, nothing, opens, adds, ends, whole, note, begun, longer, over-with, grown, closed}
 use Rattle.history.specs.Alone.{Touches}
-use Rattle.history.specs.Law.{Stood, just, earlier, One-moment, Had-touched, Listed, Rival, Has-rival}
+use Rattle.history.specs.Law.{Stood, just, earlier, One-moment, Had-touched, Listed, Rival}
 use Rattle.history.proofs.Logic.{at-same, at-other, at-elim, no-some}
 use Rattle.history.proofs.Invariant.{Settled}
 
@@ -27,12 +27,14 @@ pub record Follows (L L′ : Ledger) (t : ℕ) (T : Transaction) : Type 0 where
   pub touched : (v k : ℕ) → Had-touched T v k → Had-touched next v k
   pub lasts : (L′ .current t ≡ some next) ⊎ (List·Memᴰ next (L′ .ended) × (calls L ≤ next .last))
 
+-- what a call leaves of a ledger: moments and ended transactions stay, current ones go on or end
 pub record Grows (L L′ : Ledger) : Type 0 where
   pub moments : (i : ℕ) (s : ℕ → ℤ) → Stood (L .moments) i s → Stood (L′ .moments) i s
   pub longer : calls L < calls L′
   pub ended : (T : Transaction) → List·Memᴰ T (L .ended) → List·Memᴰ T (L′ .ended)
   pub current : (t : ℕ) (T : Transaction) → T .fate ≡ unended → L .current t ≡ some T → Follows L L′ t T
 
+-- what a task has now is unended
 abbrev pub All-unended : Ledger → Type 0
 All-unended L = (t : ℕ) (T : Transaction) → L .current t ≡ some T → T .fate ≡ unended
 

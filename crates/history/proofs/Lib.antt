@@ -7,6 +7,7 @@ pub mod Invariant
 pub mod Ledgers
 pub mod Others
 pub mod GrantedReads
+pub mod Counting
 pub mod Effects
 pub mod Begin
 pub mod Commit
@@ -18,5 +19,9 @@ pub mod Keeping
 pub mod OwnTask
 pub mod Soundness
 pub mod Stands
+pub mod Building
+pub mod Collecting
+pub mod Asking
 pub mod Refutations
+pub mod ExamplePolicy
 pub mod ExampleRun

@@ -43,11 +43,11 @@ pub not-false : (x : Bool) → not x ≡ false → x ≡ true
 not-false true h = refl
 not-false false h = absurd (not-both refl h)
 
-is-true : (b : Bool) → T b → b ≡ true
+pub is-true : (b : Bool) → T b → b ≡ true
 is-true true h = refl
 is-true false h = elim h [ ]
 
-eqb-refl-true : (k : ℕ) → eqb k k ≡ true
+pub eqb-refl-true : (k : ℕ) → eqb k k ≡ true
 eqb-refl-true k = is-true (eqb k k) (eqb-refl k)
 
 pub eqb-same : (i k : ℕ) → eqb i k ≡ true → i ≡ k

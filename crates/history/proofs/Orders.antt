@@ -1,13 +1,12 @@
 -- Laws of transactions that stand in an order.
-use Prim.Native.Nat.{ℕ, _<_, _≤_}
-use native.Mathlib.Omega.{arith}
+use Prim.Native.Nat.{ℕ, _<_}
 use mathlib.Core.Path.{_≡_, refl, sym, _∙_, ap, subst, fun-ext}
 use mathlib.Core.Logic.{_⊎_, inl, inr}
 use mathlib.Core.List.{List, [], _∷_, _++_, List·Memᴰ, List·Memᴰ·head, List·Memᴰ·tail}
-use mathlib.Core.Option.{Option, none, some, Option·getD}
+use mathlib.Core.Option.{Option, none, Option·getD}
 use lib.IntN.{ℤ}
 use Rattle.history.specs.Transactions.{Transaction}
-use Rattle.history.specs.Alone.{nothing-pending, pend, seen, Exact, run-alone}
+use Rattle.history.specs.Alone.{nothing-pending, pend, Exact, run-alone}
 use Rattle.history.specs.Serial.{replay, All-exact, In-order}
 
 pub replay-++ : (s : ℕ → ℤ) (xs ys : List Transaction) → replay s (xs ++ ys) ≡ replay (replay s xs) ys

@@ -1,25 +1,24 @@
 -- What a call leaves standing of the tasks that didn't make it.
-use Prim.Native.Nat.{ℕ, _<_, _≤_}
+use Prim.Native.Nat.{ℕ, _<_}
 use native.Mathlib.Decide.{ℕ-discrete}
 use native.Mathlib.Omega.{arith}
 use mathlib.Core.Path.{_≡_, refl, sym, _∙_, ap, subst, fun-ext}
-use mathlib.Core.Bool.{Bool, true, false, cond}
+use mathlib.Core.Bool.{true, false}
 use mathlib.Core.Logic.{_⊎_, inl, inr, _≢_}
-use mathlib.Core.List.{List, [], _∷_, _++_, append-assoc, List·Memᴰ, List·Memᴰ·head, List·Memᴰ·tail}
-use mathlib.Core.Option.{Option, none, some}
+use mathlib.Core.List.{List, [], _∷_, _++_, append-assoc, List·Memᴰ, List·Memᴰ·head, List·Memᴰ·tail, List·Permᴰ}
+use mathlib.Core.Option.{none}
 use lib.IntN.{ℤ}
-use Rattle.policy.specs.Moves.{Only}
 use Rattle.history.specs.Steps.{zeros}
-use Rattle.history.specs.Transactions.{Fate, unended, Transaction, Ledger, calls}
-use Rattle.history.specs.Alone.{nothing-pending, pend, Exact}
-use Rattle.history.specs.Serial.{replay}
-use Rattle.history.specs.Law.{Stood, Rival}
+use Rattle.history.specs.Transactions.{Fate, unended, Transaction, Ledger, calls, over-with}
+use Rattle.history.specs.Alone.{nothing-pending, Exact}
+use Rattle.history.specs.Serial.{all-committed, replay}
+use Rattle.history.specs.Law.{Stood, earlier, One-moment, Rival}
 use Rattle.history.proofs.Logic.{truth, no-some, contraposed}
-use Rattle.history.proofs.Accesses.{within-more}
+use Rattle.history.proofs.Accesses.{within-more, exact-answered}
 use Rattle.history.proofs.Orders.{mem-++}
 use Rattle.history.proofs.Views.{View}
-use Rattle.history.proofs.Invariant.{Fences, Behind, Up-to-date, Held, Standing, Active, Invariant}
-use Rattle.history.proofs.Ledgers.{Grows, All-unended, rival-grows, rival-later}
+use Rattle.history.proofs.Invariant.{Fences, Behind, Up-to-date, Held, Standing, Settled, Latest, Active, Invariant}
+use Rattle.history.proofs.Ledgers.{Grows, All-unended, rival-grows, rival-later, shut}
 
 pub unended-all : {a : View} {L : Ledger} {order : List Transaction} → Invariant a L order → All-unended L
 unended-all {a} {L} {order} g t T e = go (truth (a .facts .active t))
@@ -40,6 +39,7 @@ pub record Shift (b : View) (u first : ℕ) (order′ pre post : List Transactio
   pub same : replay zeros pre′ ≡ replay zeros pre
   pub newer : (U : Transaction) → List·Memᴰ U post′ → List·Memᴰ U post ⊎ (Fences b u U × (U .last < first → ⊥))
 
+-- wherever the cut is, it can follow the change of the order
 abbrev pub All-shift : View → ℕ → ℕ → List Transaction → List Transaction → Type 0
 All-shift b u first order order′ = (pre post : List Transaction) → order ≡ pre ++ post → Shift b u first order′ pre post
 
@@ -163,3 +163,31 @@ module _ {a : View} (b : View) {L : Ledger} (L′ : Ledger) {order : List Transa
       go : Dec (u ≡ t) → L′ .current u ≡ none
       go (yes e) = subst (λ (w : ℕ). L′ .current w ≡ none) (sym e) (mine (subst (λ (w : ℕ). b .facts .active w ≡ false) e h))
       go (no ne) = same u ne ∙ inv .idle u (sym (only u ne) ∙ h)
+
+-- a transaction that ends now has had its moment
+pub end-moment : (t : ℕ) (s : ℕ → ℤ) (L : Ledger) (z : Fate) (T : Transaction) → Held L T → T .last < calls L → One-moment (shut t s L z T) (over-with z (calls L) T)
+end-moment t s L z T h k = record {
+  moment = h .moment;
+  values = h .values;
+  stood = earlier (h .stood);
+  since = h .since;
+  until = omega (arith, h .until);
+  agree = λ v x r. exact-answered (h .values) nothing-pending (T .accesses) v x (h .exact) r;
+}
+
+-- the invariant after a call that commits nothing: the order stays as it is
+pub same-order : {a b : View} {L L′ : Ledger} {order : List Transaction} → Invariant a L order → Grows L L′
+    → all-committed (L′ .ended) ≡ all-committed (L .ended) → ((v : ℕ) → b .shared v ≡ a .shared v) → Latest (L′ .moments) (b .shared)
+    → ((t : ℕ) → b .facts .active t ≡ true → Active b L′ order t) → ((t : ℕ) → b .facts .active t ≡ false → L′ .current t ≡ none)
+    → ((T : Transaction) → List·Memᴰ T (L′ .ended) → Settled L′ T) → Invariant b L′ order
+same-order {a} {b} {L} {L′} {order} inv grows committed shared latest active idle settled = record {
+  each-once = subst (λ (r : List Transaction). List·Permᴰ order r) (sym committed) (inv .each-once);
+  exact = inv .exact;
+  ends = inv .ends ∙ sym (fun-ext shared);
+  in-order = inv .in-order;
+  bounded = λ U m. let k = inv .bounded U m in let l = grows .longer in omega arith;
+  latest = latest;
+  active = active;
+  idle = idle;
+  settled = settled;
+}

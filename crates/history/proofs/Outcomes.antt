@@ -1,10 +1,9 @@
 -- A step taken apart: which check decided its answer, and what its moves come to.
-use Prim.Native.Nat.{ℕ, zero, suc, _<_}
+use Prim.Native.Nat.{ℕ, suc}
 use native.Mathlib.Omega.{arith}
 use native.Mathlib.Decide.{ℕ-discrete}
 use mathlib.Core.Path.{_≡_, refl, sym, _∙_, ap, subst}
-use mathlib.Core.Bool.{Bool, true, false, cond}
-use mathlib.Core.Logic.{_⊎_, inl, inr, _≢_}
+use mathlib.Core.Bool.{Bool, true, false}
 use mathlib.Core.List.{List, [], _∷_, _++_, map}
 use mathlib.Core.Option.{Option, none, some}
 use lib.IntN.{ℤ}
@@ -12,12 +11,12 @@ use lib.ListN.{length}
 use Rattle.policy.specs.Facts.{Facts, may-read}
 use Rattle.policy.specs.Moves.{Move}
 use Rattle.policy.specs.Moves.{read as reads-variable}
-use Rattle.history.specs.Calls.{Call, begin, read, write, collect, snapshot, commit, abort, task, Place, listed, Wrong, Untimely, Barred, read-barred, sent-wrongly, at-wrong-time, by-policy, Answer, refused}
-use Rattle.history.specs.Answers.{Stage, idle, active, broken, checked, must-be-active, must-be-idle, must-not-be-idle, unless-allowed, first-barred, wrong, untimely, barred, granted}
+use Rattle.history.specs.Calls.{Call, begin, read, write, collect, snapshot, commit, abort, task, listed, Wrong, Untimely, Barred, read-barred, sent-wrongly, at-wrong-time, by-policy, Answer, refused}
+use Rattle.history.specs.Answers.{Stage, idle, active, broken, checked, must-be-active, must-be-idle, unless-allowed, first-barred, wrong, untimely, barred, granted}
 use Rattle.history.specs.Steps.{State, Chain, Reads-for, none-made, made, left-out, Step, sees, first-moves, granted-reads, last-moves, stage-after, pending-after, shared-after}
-use Rattle.history.specs.Transactions.{Addition, nothing, addition}
+use Rattle.history.specs.Transactions.{nothing, addition}
 use Rattle.history.specs.Runs.{in-transaction}
-use Rattle.history.proofs.Logic.{truth, not-both, no-some}
+use Rattle.history.proofs.Logic.{no-some}
 
 -- an answer is decided by the first check that fails
 pub by-check : (Q : Answer → Type 0) (w : Option Wrong) (y : Option Untimely) (z : Option Barred) (ok : Answer)
@@ -141,18 +140,20 @@ module _ {P : Type 0} (facts : P → Facts) (after : P → Move → P → Type 0
     pub unasked-shared : Unasked c (a .stage (task c)) r → (v : ℕ) → b .shared v ≡ a .shared v
     unasked-shared u v = s .shared v ∙ ap (λ (p : ℕ → ℤ). p v) (u .shared (sees facts c a (s .opened)) (a .shared))
 
-    -- a case for each check that may have decided the answer
+    -- the cases of an answer: the policy wasn't asked, or it refused, or it granted
     pub by-answer : (Q : Answer → Type 0)
-        → ((x : Wrong) → Step facts after strict c a (refused (sent-wrongly x)) b → Q (refused (sent-wrongly x)))
-        → ((x : Untimely) → untimely c (a .stage (task c)) ≡ some x → Step facts after strict c a (refused (at-wrong-time x)) b → Q (refused (at-wrong-time x)))
+        → ((q : Answer) → Unasked c (a .stage (task c)) q → Step facts after strict c a q b → Q q)
         → ((x : Barred) → untimely c (a .stage (task c)) ≡ none → (p : P) → barred strict (facts p) c ≡ some x
         → Step facts after strict c a (refused (by-policy x)) b → Q (refused (by-policy x)))
         → ((p : P) (k : ℕ) → untimely c (a .stage (task c)) ≡ none
         → (s′ : Step facts after strict c a (granted (sees facts c a p) k c) b) → s′ .opened ≡ p → Q (granted (sees facts c a p) k c))
         → Q r
-    by-answer Q f g h k =
+    by-answer Q unasked bars grants =
         subst (λ (q : Answer). (s′ : Step facts after strict c a q b) → s′ .opened ≡ s .opened → Q q) (sym (s .answered))
         (by-check (λ (q : Answer). (s′ : Step facts after strict c a q b) → s′ .opened ≡ s .opened → Q q)
         (wrong c) (untimely c (a .stage (task c))) (barred strict (facts (s .opened)) c) (granted (sees facts c a (s .opened)) (length (s .reads)) c)
-        (λ x w s′ e. f x s′) (λ x y s′ e. g x y s′) (λ x y z s′ e. h x y (s .opened) z s′) (λ y z s′ e. k (s .opened) (length (s .reads)) y s′ e))
+        (λ x w s′ e. unasked (refused (sent-wrongly x)) (wrong-unasked c (a .stage (task c)) x) s′)
+        (λ x y s′ e. unasked (refused (at-wrong-time x)) (untimely-unasked c (a .stage (task c)) x y) s′)
+        (λ x y z s′ e. bars x y (s .opened) z s′)
+        (λ y z s′ e. grants (s .opened) (length (s .reads)) y s′ e))
         s refl

@@ -1,20 +1,20 @@
 -- Stages and policy keep agreeing: what a call does to the task that makes it.
 use Prim.Native.Nat.{ℕ}
 use mathlib.Core.Path.{_≡_, refl, sym, _∙_, ap, subst}
-use mathlib.Core.Bool.{Bool, true, false}
+use mathlib.Core.Bool.{Bool, false}
 use mathlib.Core.List.{List, [], _∷_, map}
-use mathlib.Core.Option.{Option, none, some}
+use mathlib.Core.Option.{none}
 use lib.IntN.{ℤ, pos}
 use Rattle.policy.specs.Facts.{Facts, Proper, may-read, may-write, may-commit}
-use Rattle.policy.specs.Moves.{Move, Begun, Has-written, Ended, Keeps, read-refused, write-refused, commit-refused}
+use Rattle.policy.specs.Moves.{Move, Has-written, Keeps, read-refused, write-refused, commit-refused}
 use Rattle.policy.specs.Moves.{begin as begins, read as reads-variable, write as writes-variable, commit as commits, abort as aborts}
-use Rattle.history.specs.Calls.{Call, begin, read, write, collect, snapshot, commit, abort, task, single, listed, Barred, read-barred, write-barred, commit-barred, by-policy, Answer, done, refused}
-use Rattle.history.specs.Answers.{Stage, idle, active, broken, untimely, barred, granted, must-be-idle, must-not-be-idle}
-use Rattle.history.specs.Steps.{State, Chain, Step, sees, abort-moves, stage-after, pending-after}
+use Rattle.history.specs.Calls.{Call, begin, read, write, collect, snapshot, commit, abort, task, single, Barred, read-barred, write-barred, commit-barred, by-policy, Answer, done, refused}
+use Rattle.history.specs.Answers.{Stage, idle, active, broken, untimely, must-be-idle, must-not-be-idle}
+use Rattle.history.specs.Steps.{State, Chain, Step, abort-moves, stage-after, pending-after}
 use Rattle.history.specs.Runs.{in-transaction, Sound}
 use Rattle.history.proofs.Logic.{not-both, no-some, at-elim}
 use Rattle.history.proofs.GrantedReads.{Read-all, chain-reads}
-use Rattle.history.proofs.Outcomes.{is-active, is-idle, the-bar, the-place, Unasked, wrong-unasked, untimely-unasked, one-move, last-alone, unasked-policy, by-answer}
+use Rattle.history.proofs.Outcomes.{is-active, is-idle, the-bar, the-place, Unasked, one-move, last-alone, unasked-policy, by-answer}
 
 module _ {P : Type 0} (facts : P → Facts) (after : P → Move → P → Type 0) (strict : Bool)
     (keeps : (p q : P) (m : Move) → after p m q → Keeps strict m (facts p) (facts q)) (proper : (p : P) → Proper (facts p))
@@ -33,15 +33,6 @@ module _ {P : Type 0} (facts : P → Facts) (after : P → Move → P → Type 0
     where
       same : b .policy ≡ a .policy
       same = unasked-policy facts after strict s u
-
-  cases : (c : Call) (r : Answer) (s : Step facts after strict c a r b)
-      → ((x : Barred) → untimely c (a .stage (task c)) ≡ none → (p : P) → barred strict (facts p) c ≡ some x
-      → Step facts after strict c a (refused (by-policy x)) b → Own c (refused (by-policy x)))
-      → ((p : P) (k : ℕ) → untimely c (a .stage (task c)) ≡ none
-      → (s′ : Step facts after strict c a (granted (sees facts c a p) k c) b) → s′ .opened ≡ p → Own c (granted (sees facts c a p) k c))
-      → Own c r
-  cases c r s = by-answer facts after strict s (Own c)
-      (λ x. unasked c _ (wrong-unasked c (a .stage (task c)) x)) (λ x e. unasked c _ (untimely-unasked c (a .stage (task c)) x e))
 
   -- the rule of the only move that a call makes
   only-rule : (m : Move) → Chain after (m ∷ []) (a .policy) (b .policy) → Keeps strict m (facts (a .policy)) (facts (b .policy))
@@ -65,20 +56,20 @@ module _ {P : Type 0} (facts : P → Facts) (after : P → Move → P → Type 0
   barred-own t v between c = keeps between (b .policy) (read-refused t v) (one-move facts after strict (read-refused t v) between (b .policy) c) .ended .gone
 
   read-own : (t v : ℕ) (r : Answer) → Step facts after strict (read t v) a r b → Own (read t v) r
-  read-own t v r s = cases (read t v) r s
+  read-own t v r s = by-answer facts after strict s (Own (read t v)) (unasked (read t v))
       (λ x y p z. subst (λ (why : Barred). Step facts after strict (read t v) a (refused (by-policy why)) b → Own (read t v) (refused (by-policy why)))
       (the-bar (may-read (facts p) t v) (read-barred single v) x z) (λ s′. (barred-own t v (s′ .between) (s′ .closing), λ w f. refl)))
       (λ p k y s′ e. reads-own t (s′ .reads) (s′ .opened) (s′ .between) (s′ .opening) (is-active (a .stage t) y) (s′ .reading) (s′ .closing))
 
   collect-own : (t : ℕ) (vs : List ℕ) (room : ℕ) (r : Answer) → Step facts after strict (collect t vs room) a r b → Own (collect t vs room) r
-  collect-own t vs room r s = cases (collect t vs room) r s
+  collect-own t vs room r s = by-answer facts after strict s (Own (collect t vs room)) (unasked (collect t vs room))
       (λ x y p z. let w = the-place (facts p) t 0 vs x z in
       subst (λ (why : Barred). Step facts after strict (collect t vs room) a (refused (by-policy why)) b → Own (collect t vs room) (refused (by-policy why)))
       (w .2) (λ s′. (barred-own t (w .1) (s′ .between) (s′ .closing), λ v f. refl)))
       (λ p k y s′ e. reads-own t (s′ .reads) (s′ .opened) (s′ .between) (s′ .opening) (is-active (a .stage t) y) (s′ .reading) (s′ .closing))
 
   write-own : (t v : ℕ) (x : ℤ) (r : Answer) → Step facts after strict (write t v x) a r b → Own (write t v x) r
-  write-own t v x r s = cases (write t v x) r s
+  write-own t v x r s = by-answer facts after strict s (Own (write t v x)) (unasked (write t v x))
       (λ w y p z. subst (λ (why : Barred). Step facts after strict (write t v x) a (refused (by-policy why)) b → Own (write t v x) (refused (by-policy why)))
       (the-bar (may-write (facts p) t v) (write-barred v) w z)
       (λ s′. (only-rule (write-refused t v) (last-alone facts after strict s′ refl refl) .ended .gone, λ u f. refl)))
@@ -93,14 +84,14 @@ module _ {P : Type 0} (facts : P → Facts) (after : P → Move → P → Type 0
       )
 
   commit-own : (t : ℕ) (r : Answer) → Step facts after strict (commit t) a r b → Own (commit t) r
-  commit-own t r s = cases (commit t) r s
+  commit-own t r s = by-answer facts after strict s (Own (commit t)) (unasked (commit t))
       (λ x y p z. subst (λ (why : Barred). Step facts after strict (commit t) a (refused (by-policy why)) b → Own (commit t) (refused (by-policy why)))
       (the-bar (may-commit strict (facts p) t) commit-barred x z)
       (λ s′. (only-rule (commit-refused t) (last-alone facts after strict s′ refl refl) .ended .gone, λ u f. refl)))
       (λ p k y s′ e. (only-rule (commits t) (last-alone facts after strict s′ refl refl) .gone, λ u f. refl))
 
   abort-own : (t : ℕ) (r : Answer) → Step facts after strict (abort t) a r b → Own (abort t) r
-  abort-own t r s = cases (abort t) r s (λ x y p z s′. absurd (no-some refl z)) (λ p k y s′ e. (at-stage (a .stage t) refl y s′, λ v f. refl))
+  abort-own t r s = by-answer facts after strict s (Own (abort t)) (unasked (abort t)) (λ x y p z s′. absurd (no-some refl z)) (λ p k y s′ e. (at-stage (a .stage t) refl y s′, λ v f. refl))
     where
       moved : {g : Stage} → a .stage t ≡ g → Step facts after strict (abort t) a done b → Chain after (abort-moves t g) (a .policy) (b .policy)
       moved e s′ = subst (λ (x : Stage). Chain after (abort-moves t x) (a .policy) (b .policy)) e (last-alone facts after strict s′ refl refl)
@@ -112,7 +103,7 @@ module _ {P : Type 0} (facts : P → Facts) (after : P → Move → P → Type 0
       at-stage broken e y s′ = ap (λ (p : P). facts p .active t) (moved e s′) ∙ sound .agree t ∙ ap in-transaction e
 
   snapshot-own : (t : ℕ) (vs : List ℕ) (room : ℕ) (r : Answer) → Step facts after strict (snapshot t vs room) a r b → Own (snapshot t vs room) r
-  snapshot-own t vs room r s = cases (snapshot t vs room) r s
+  snapshot-own t vs room r s = by-answer facts after strict s (Own (snapshot t vs room)) (unasked (snapshot t vs room))
       (λ x y p z. let w = the-place (facts p) t 0 vs x z in
       subst (λ (why : Barred). Step facts after strict (snapshot t vs room) a (refused (by-policy why)) b → Own (snapshot t vs room) (refused (by-policy why)))
       (w .2) (λ s′. idle-still (barred-own t (w .1) (s′ .between) (s′ .closing)) y))
@@ -125,7 +116,7 @@ module _ {P : Type 0} (facts : P → Facts) (after : P → Move → P → Type 0
           (gone ∙ sym out, λ v f. sound .unwritten t v (proper (a .policy) .no-writes t v (sound .agree t ∙ out)))
 
   pub own-task : (c : Call) (r : Answer) → Step facts after strict c a r b → Own c r
-  own-task (begin t) r s = cases (begin t) r s (λ x y p z s′. absurd (no-some refl z))
+  own-task (begin t) r s = by-answer facts after strict s (Own (begin t)) (unasked (begin t)) (λ x y p z s′. absurd (no-some refl z))
       (λ p k y s′ e. (only-rule (begins t) (last-alone facts after strict s′ refl refl) .active, λ v f. refl))
   own-task (read t v) r s = read-own t v r s
   own-task (write t v x) r s = write-own t v x r s

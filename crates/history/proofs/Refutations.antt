@@ -8,12 +8,11 @@ use mathlib.Core.List.{List, [], _∷_, List·Memᴰ, List·Memᴰ·head, List·
 use mathlib.Core.Option.{Option, none, some}
 use lib.IntN.{ℤ, pos}
 use lib.Dec.{eqb, lit<}
-use Rattle.history.specs.Update.{at}
 use Rattle.history.specs.Steps.{zeros}
-use Rattle.history.specs.Transactions.{Transaction, Ledger, got, put, committed, begun, read-off}
-use Rattle.history.specs.Serial.{All-exact, In-order}
-use Rattle.history.specs.Law.{Serial-order, Stood, just, earlier, One-moment, Rival, Has-rival, Lasts}
-use Rattle.history.specs.Refuted.{five, five-and-six, stale, torn, torn-reader, lonely, lonely-reader, Refuted}
+use Rattle.history.specs.Transactions.{Transaction, got, put, committed, begun, read-off}
+use Rattle.history.specs.Serial.{replay, All-exact, In-order}
+use Rattle.history.specs.Law.{Serial-order, Stood, just, earlier, One-moment, Has-rival, Lasts}
+use Rattle.history.specs.Refuted.{five, stale, unshared, dirty, dirty-reader, torn, torn-reader, lonely, lonely-reader, Refuted}
 use Rattle.history.proofs.Logic.{no-some}
 
 -- the orders of two
@@ -42,8 +41,8 @@ module _ {A : Type 0} where
     | inr k ↦ elim (perm-two y x d k) [ inl j ↦ inr j | inr j ↦ inl j ]
   ]
 
-no-order : Serial-order (read-off stale) five → ⊥
-no-order s = go (perm-two reader writer (s .each-once) refl)
+stale-unordered : Serial-order (read-off stale) five → ⊥
+stale-unordered s = go (perm-two reader writer (s .each-once) refl)
   where
     reader : Transaction
     reader = record { task = 1; first = 3; last = 5; accesses = got 4 5 (pos 0) ∷ []; fate = committed }
@@ -55,30 +54,42 @@ no-order s = go (perm-two reader writer (s .each-once) refl)
     go (inl e) = subst In-order e (s .in-order) .0 writer (List·Memᴰ·head refl) (lit< tt)
     go (inr e) = let q : pos 0 ≡ pos 7 = subst (All-exact zeros) e (s .exact) .1 .0 .0 in let z : _≡_ {A = ℕ} 0 7 = cc in omega arith
 
--- the two variables are alike at every moment
-no-moment : One-moment (read-off torn) torn-reader → ⊥
-no-moment m =
-    let q : pos 0 ≡ pos 7 = sym (m .agree 5 (pos 0) (inl (refl, refl, refl))) ∙ alike (m .stood) ∙ m .agree 6 (pos 7) (inr (inl (refl, refl, refl))) in
-    let z : _≡_ {A = ℕ} 0 7 = cc in
-    omega arith
+seven-zero : pos 7 ≡ pos 0 → ⊥
+seven-zero q = let z : _≡_ {A = ℕ} 7 0 = cc in omega arith
+
+unshared-unordered : Serial-order (read-off unshared) zeros → ⊥
+unshared-unordered s = seven-zero (subst (λ (Ts : List Transaction). replay zeros Ts 5 ≡ pos 0) (perm-one writer (s .each-once) refl) (s .ends 5))
   where
-    All-alike : List (ℕ → ℤ) → Type 0
-    All-alike [] = Unit {0}
-    All-alike (s ∷ ss) = (s 5 ≡ s 6) × All-alike ss
+    writer : Transaction
+    writer = record { task = 0; first = 0; last = 2; accesses = put 1 5 (pos 7) ∷ []; fate = committed }
 
-    stood-alike : {ss : List (ℕ → ℤ)} {i : ℕ} {s : ℕ → ℤ} → Stood ss i s → All-alike ss → s 5 ≡ s 6
-    stood-alike just h = h .0
-    stood-alike (earlier k) h = stood-alike k (h .1)
+-- whatever holds of all moments holds of the one that stood
+module _ (Q : (ℕ → ℤ) → Type 0) where
+  abbrev All-moments : List (ℕ → ℤ) → Type 0
+  All-moments [] = Unit {0}
+  All-moments (s ∷ ss) = Q s × All-moments ss
 
-    alike : {i : ℕ} {s : ℕ → ℤ} → Stood (read-off torn .moments) i s → s 5 ≡ s 6
-    alike k = stood-alike k (refl, (refl, (refl, (refl, (refl, (refl, (refl, tt)))))))
+  of-stood : {ss : List (ℕ → ℤ)} {i : ℕ} {s : ℕ → ℤ} → Stood ss i s → All-moments ss → Q s
+  of-stood just h = h .0
+  of-stood (earlier k) h = of-stood k (h .1)
+
+-- variable 5 is 0 at every moment
+dirty-momentless : One-moment (read-off dirty) dirty-reader → ⊥
+dirty-momentless m =
+    seven-zero (sym (m .agree 5 (pos 7) (inl (refl, refl, refl))) ∙ of-stood (λ s. s 5 ≡ pos 0) (m .stood) (refl, (refl, (refl, (refl, (refl, tt))))))
+
+-- the two variables are alike at every moment
+torn-momentless : One-moment (read-off torn) torn-reader → ⊥
+torn-momentless m =
+    seven-zero (sym (sym (m .agree 5 (pos 0) (inl (refl, refl, refl)))
+    ∙ of-stood (λ s. s 5 ≡ s 6) (m .stood) (refl, (refl, (refl, (refl, (refl, (refl, (refl, tt))))))) ∙ m .agree 6 (pos 7) (inr (inl (refl, refl, refl)))))
 
 none-there : (o : Option Transaction) (b : Bool) → cond b none (cond b o none) ≡ none
 none-there o true = refl
 none-there o false = refl
 
-no-rival : Has-rival (read-off lonely) lonely-reader (some 5) → ⊥
-no-rival h = go (h .rival .lasts)
+lonely-unrivalled : Has-rival (read-off lonely) lonely-reader (some 5) → ⊥
+lonely-unrivalled h = go (h .rival .lasts)
   where
     go : Lasts (read-off lonely) (h .rival .rival) 0 → ⊥
     go (inl l) = only (l .0)
@@ -89,4 +100,13 @@ no-rival h = go (h .rival .lasts)
     go (inr e) = no-some (none-there (some (begun 0 0)) (eqb (h .rival .rival .task) 0)) e
 
 pub refuted : Refuted
-refuted = record { no-order = no-order; is-torn = refl; no-moment = no-moment; is-lonely = refl; no-rival = no-rival }
+refuted = record {
+  stale-unordered = stale-unordered;
+  unshared-unordered = unshared-unordered;
+  is-dirty = refl;
+  dirty-momentless = dirty-momentless;
+  is-torn = refl;
+  torn-momentless = torn-momentless;
+  is-lonely = refl;
+  lonely-unrivalled = lonely-unrivalled;
+}

@@ -7,7 +7,7 @@ use mathlib.Core.Bool.{Bool, true, false, not, _&&_, _||_}
 use mathlib.Core.Logic.{_⊎_, inl, inr}
 use Rattle.policy.specs.Limits.{variables}
 use Rattle.policy.specs.Facts.{Facts, some-below, may-read, may-commit, Proper}
-use Rattle.policy.specs.Moves.{Passed}
+use Rattle.policy.specs.Moves.{Passed, Spared}
 use Rattle.history.proofs.Logic.{truth, not-both, neither-true, both-true, not-true, not-false}
 
 -- a set of which nothing is below n has nothing below n
@@ -52,3 +52,13 @@ silent-behind {t} {u} {f} {g} p silent = go (truth (f .behind u)) (truth (g .beh
     go (inl h) k = p .stays-behind h ∙ sym h
     go (inr h) (inl k) = elim (p .only-so k) [ inl q ↦ k ∙ sym q | inr q ↦ absurd (not-both (q .2) (silent (q .0))) ]
     go (inr h) (inr k) = k ∙ sym h
+
+-- The promise to a task that is behind, that its no-read set only grows, is used through these three alone.
+pub bars-kept : {t u : ℕ} {f g : Facts} → Passed t f g u → g .behind u ≡ true → (v : ℕ) → f .no-read u v ≡ true → g .no-read u v ≡ true
+bars-kept p l = p .fenced l .kept
+
+pub bars-gained : {t u : ℕ} {f g : Facts} → Passed t f g u → g .behind u ≡ true → (v : ℕ) → f .writes t v ≡ true → g .no-read u v ≡ true
+bars-gained p l = p .fenced l .gains
+
+pub bars-spared : {u : ℕ} {f g : Facts} → Spared f g u → f .behind u ≡ true → (v : ℕ) → f .no-read u v ≡ true → g .no-read u v ≡ true
+bars-spared s = s .fenced

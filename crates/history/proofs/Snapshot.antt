@@ -1,32 +1,33 @@
 -- Snapshots: a begin, reads and an end in one call.
-use Prim.Native.Nat.{ℕ, _<_, _≤_}
+use Prim.Native.Nat.{ℕ, _<_}
 use native.Mathlib.Omega.{arith}
 use mathlib.Core.Path.{_≡_, refl, sym, _∙_, ap, subst, fun-ext}
-use mathlib.Core.Bool.{Bool, true, false, cond}
+use mathlib.Core.Bool.{Bool, true, false}
 use mathlib.Core.Logic.{_⊎_, inl, inr, _≢_}
-use mathlib.Core.List.{List, [], _∷_, _++_, map, append-nil, append-assoc, List·Memᴰ, List·Memᴰ·head, List·Memᴰ·tail, List·Permᴰ, List·Permᴰ·cons, List·Permᴰ·trans, Permᴰ·middle, Permᴰ·append-nil}
-use mathlib.Core.Option.{Option, none, some}
+use mathlib.Core.List.{List, [], _∷_, _++_, map, append-nil, List·Memᴰ, List·Memᴰ·head, List·Memᴰ·tail, List·Permᴰ·cons, List·Permᴰ·trans, Permᴰ·middle, Permᴰ·append-nil}
+use mathlib.Core.Option.{Option, some}
 use lib.IntN.{ℤ}
 use Rattle.policy.specs.Moves.{Only, Unchanged, Passed}
 use Rattle.history.specs.Steps.{zeros}
 use Rattle.history.specs.Transactions.{committed, policy-refused, Transaction, Ledger, calls, note, whole, gots}
-use Rattle.history.specs.Alone.{nothing-pending, pend, Exact}
-use Rattle.history.specs.Serial.{all-committed, replay, In-order}
+use Rattle.history.specs.Alone.{nothing-pending, Exact}
+use Rattle.history.specs.Serial.{replay, In-order}
 use Rattle.history.specs.Law.{just, Rival}
-use Rattle.history.proofs.Logic.{truth, not-both}
+use Rattle.history.proofs.Logic.{not-both}
 use Rattle.history.proofs.Accesses.{pend-gots, exact-gots, exact-answered, gots-touches}
 use Rattle.history.proofs.Orders.{replay-++, exact-order-++, Silent, alone-silent, mem-++, order-insert}
-use Rattle.history.proofs.Rules.{silent-behind}
+use Rattle.history.proofs.Rules.{silent-behind, bars-kept}
 use Rattle.history.proofs.Views.{View}
 use Rattle.history.proofs.GrantedReads.{Beside-all}
 use Rattle.history.proofs.Effects.{Snaps, Bars-snap}
-use Rattle.history.proofs.Invariant.{Fences, Standing, Settled, Active, Invariant}
+use Rattle.history.proofs.Invariant.{Settled, Invariant}
 use Rattle.history.proofs.Ledgers.{Grows, rival-grows, settled-grows, whole-grows}
-use Rattle.history.proofs.Others.{unended-all, append-shift, stays, Undisturbed, undisturbed-standing, all-active, all-idle}
+use Rattle.history.proofs.Others.{unended-all, append-shift, stays, Undisturbed, undisturbed-standing, all-active, all-idle, same-order}
 use Rattle.history.proofs.End.{Relieved, beside-spared}
 use Rattle.history.proofs.Begin.{taken-rival}
 
 module _ (strict : Bool) (t : ℕ) (vs : List ℕ) (see : ℕ → ℤ) (a b : View) (L : Ledger) (order : List Transaction) (inv : Invariant a L order) (step : Snaps strict t vs see a b) where
+  -- the snapshot as a transaction
   abbrev S : Transaction
   S = record { task = t; first = calls L; last = calls L; accesses = gots (calls L) vs (map see vs); fate = committed }
 
@@ -69,7 +70,7 @@ module _ (strict : Bool) (t : ℕ) (vs : List ℕ) (see : ℕ → ℤ) (a b : Vi
     writes = λ w. q .sets .writes w ∙ p .writes w ∙ s .sets .writes w;
     pending = step .quiet .pending u ne;
     behind = silent-behind q unwritten ∙ p .behind ∙ s .behind;
-    no-read-kept = λ k w e. q .fenced (q .stays-behind (p .behind ∙ s .behind ∙ k)) .kept w (p .no-read-kept w (s .bars .no-read w ∙ e));
+    no-read-kept = λ k w e. bars-kept q (q .stays-behind (p .behind ∙ s .behind ∙ k)) w (p .no-read-kept w (s .bars .no-read w ∙ e));
     no-read-new = λ k w e. elim (q .near k .no-read w e) [
       | inl d ↦ elim (p .no-read-new w d) [ inl c ↦ inl (sym (s .bars .no-read w) ∙ c) | inr m ↦ inr (rival-s u first w ne h m) ]
       | inr d ↦ absurd (not-both d (unwritten w))
@@ -126,6 +127,7 @@ module _ (strict : Bool) (t : ℕ) (vs : List ℕ) (see : ℕ → ℤ) (a b : Vi
   }
 
 module _ (t v : ℕ) (vs : List ℕ) (a b : View) (L : Ledger) (order : List Transaction) (inv : Invariant a L order) (step : Bars-snap t v vs a b) where
+  -- the refused snapshot as a transaction
   abbrev R : Transaction
   R = record { task = t; first = calls L; last = calls L; accesses = []; fate = policy-refused (some v) vs }
 
@@ -178,16 +180,9 @@ module _ (t v : ℕ) (vs : List ℕ) (a b : View) (L : Ledger) (order : List Tra
   all-settled-r U (List·Memᴰ·tail m) = settled-grows grows-r (unended-all inv) (inv .settled U m)
 
   pub bar-snap-keeps : Invariant b L″ order
-  bar-snap-keeps = record {
-    each-once = inv .each-once;
-    exact = inv .exact;
-    ends = inv .ends ∙ sym (fun-ext (step .quiet .shared));
-    in-order = inv .in-order;
-    bounded = λ U m. let k = inv .bounded U m in omega arith;
-    latest = refl;
-    active = all-active b L″ order t inv only-r (λ u ne. refl)
-        (λ u U ne l s. undisturbed-standing grows-r (unended-all inv) (step .quiet .shared) (stays b u (U .first) order) (undisturbed-r u (U .first) (s .begun) ne l) s)
-        (λ h. absurd (not-both h (step .ends .gone)));
-    idle = all-idle b L″ order t inv only-r (λ u ne. refl) (λ h. inv .idle t (step .begun .was));
-    settled = all-settled-r;
-  }
+  bar-snap-keeps = same-order inv grows-r refl (step .quiet .shared) refl
+      (all-active b L″ order t inv only-r (λ u ne. refl)
+      (λ u U ne l s. undisturbed-standing grows-r (unended-all inv) (step .quiet .shared) (stays b u (U .first) order) (undisturbed-r u (U .first) (s .begun) ne l) s)
+      (λ h. absurd (not-both h (step .ends .gone))))
+      (all-idle b L″ order t inv only-r (λ u ne. refl) (λ h. inv .idle t (step .begun .was)))
+      all-settled-r

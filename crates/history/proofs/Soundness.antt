@@ -5,7 +5,7 @@ use mathlib.Core.Path.{_≡_, refl, sym, _∙_, ap, subst}
 use mathlib.Core.Bool.{Bool, true, false}
 use mathlib.Core.Logic.{_⊎_, inl, inr, _≢_}
 use mathlib.Core.List.{List, [], _∷_, map}
-use lib.IntN.{ℤ, pos}
+use lib.IntN.{pos}
 use Rattle.policy.specs.Facts.{Facts, Proper}
 use Rattle.policy.specs.Moves.{Move, Keeps, read-refused, write-refused, commit-refused}
 use Rattle.policy.specs.Moves.{begin as begins, read as reads-variable, write as writes-variable, commit as commits, abort as aborts}
@@ -27,6 +27,7 @@ mover (commits t) = t
 mover (commit-refused t) = t
 mover (aborts t) = t
 
+-- all these moves are calls of task t
 abbrev pub All-by : ℕ → List Move → Type 0
 All-by t [] = Unit {0}
 All-by t (m ∷ ms) = (mover m ≡ t) × All-by t ms
@@ -51,6 +52,14 @@ beside-more p q = record {
   active = λ u ne. q .active u ne ∙ p .active u ne;
   writes = λ u ne l v. q .writes u ne (p .active u ne ∙ l) v ∙ p .writes u ne l v;
 }
+
+-- so the write sets of all other tasks stay as they are
+pub same-writes : {t : ℕ} {f g : Facts} → Proper f → Proper g → Beside t f g → (u : ℕ) → u ≢ t → (v : ℕ) → g .writes u v ≡ f .writes u v
+same-writes {t} {f} {g} pf pg h u ne v = go (truth (f .active u))
+  where
+    go : (f .active u ≡ true) ⊎ (f .active u ≡ false) → g .writes u v ≡ f .writes u v
+    go (inl l) = h .writes u ne l v
+    go (inr l) = pg .no-writes u v (h .active u ne ∙ l) ∙ sym (pf .no-writes u v l)
 
 -- whatever holds of each case holds of the case that an answer picks
 in-each-case : {A : Type 0} (Q : A → Type 0) (r : Answer) (ok : A) (bar : Barred → A) (un : A) → Q ok → ((x : Barred) → Q (bar x)) → Q un → Q (in-case r ok bar un)

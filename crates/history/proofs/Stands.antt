@@ -4,17 +4,16 @@ use native.Mathlib.Omega.{arith}
 use mathlib.Core.Path.{_≡_, refl, sym, _∙_, ap, subst, fun-ext}
 use mathlib.Core.Bool.{Bool, true, false}
 use mathlib.Core.Logic.{_⊎_, inl, inr}
-use mathlib.Core.List.{List, [], _∷_, List·Memᴰ, List·Permᴰ·nil}
-use mathlib.Core.Option.{Option, none, some}
+use mathlib.Core.List.{List, [], List·Permᴰ·nil}
+use mathlib.Core.Option.{Option, some}
 use lib.IntN.{ℤ}
 use Rattle.policy.specs.Facts.{Facts, Proper}
 use Rattle.policy.specs.Moves.{Move, Keeps}
-use Rattle.history.specs.Calls.{Call, Answer}
-use Rattle.history.specs.Steps.{State, Step}
-use Rattle.history.specs.Transactions.{Fate, unended, policy-refused, Transaction, Ledger, History, new-ledger, read-off}
+use Rattle.history.specs.Steps.{State}
+use Rattle.history.specs.Transactions.{unended, policy-refused, Transaction, Ledger, History, new-ledger, read-off}
 use Rattle.history.specs.Alone.{nothing-pending}
-use Rattle.history.specs.Law.{One-moment, Has-rival, Known, Lawful}
-use Rattle.history.specs.Runs.{Overlaps, Unrefused-alone, Sound, New, Leads, none-yet, then, Law-stands, Always-sound}
+use Rattle.history.specs.Law.{One-moment, Lawful}
+use Rattle.history.specs.Runs.{Unrefused-alone, Sound, New, Leads, none-yet, then, Law-stands, Stays-sound}
 use Rattle.history.proofs.Logic.{truth, not-both, no-some}
 use Rattle.history.proofs.Accesses.{exact-answered}
 use Rattle.history.proofs.Views.{View, view}
@@ -98,5 +97,5 @@ module _ {P : Type 0} (facts : P → Facts) (after : P → Move → P → Type 0
   pub law : Law-stands facts after strict
   law a b h n run = let g : Reached b h = run-reaches n run in invariant-lawful (view facts b) h (g .order) (g .invariant)
 
-  pub always-sound : Always-sound facts after strict
-  always-sound a b h n run = run-reaches n run .sound
+  pub stays-sound : Stays-sound facts after strict
+  stays-sound = record { new = λ a n. new-sound facts n; step = λ c r a b s sound. step-sound facts after strict keeps proper s sound }

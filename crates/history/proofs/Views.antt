@@ -7,11 +7,13 @@ use Rattle.policy.specs.Facts.{Facts}
 use Rattle.history.specs.Answers.{look}
 use Rattle.history.specs.Steps.{State}
 
+-- a table as the proof sees it
 pub record View : Type 0 where
   pub facts : Facts
   pub pending : ℕ → ℕ → ℤ
   pub shared : ℕ → ℤ
 
+-- the view of a table over any policy
 abbrev pub view : {P : Type 0} → (P → Facts) → State P → View
 view facts a = record { facts = facts (a .policy); pending = a .pending; shared = a .shared }
 

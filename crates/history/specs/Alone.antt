@@ -8,6 +8,7 @@ use lib.IntN.{ℤ}
 use Rattle.history.specs.Update.{at}
 use Rattle.history.specs.Transactions.{Access, got, put, Transaction}
 
+-- no value is pending, as when a transaction begins
 abbrev pub nothing-pending : ℕ → Option ℤ
 nothing-pending v = none
 

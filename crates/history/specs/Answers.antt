@@ -1,15 +1,15 @@
 -- What a table answers, from its state before the call and the facts of its policy.
-use Prim.Native.Nat.{ℕ, zero, suc}
-use mathlib.Core.Bool.{Bool, true, false, cond, _||_}
+use Prim.Native.Nat.{ℕ, suc}
+use mathlib.Core.Bool.{Bool, true, false, cond}
 use mathlib.Core.List.{List, [], _∷_, map}
-use mathlib.Core.Option.{Option, none, some, Option·map}
-use lib.IntN.{ℤ, pos}
+use mathlib.Core.Option.{Option, none, some}
+use lib.IntN.{ℤ}
 use lib.ListN.{length}
-use lib.Dec.{ltb, eqb}
+use lib.Dec.{ltb}
 use Rattle.policy.specs.Limits.{tasks, variables}
 use Rattle.policy.specs.Facts.{Facts, may-read, may-write, may-commit}
-use Rattle.history.specs.Calls.{Call, begin, read, write, collect, snapshot, commit, abort, Place, single, listed, Wrong, no-task, no-variable, list-length, short-buffer}
-use Rattle.history.specs.Calls.{Untimely, not-idle, is-idle, is-broken, Barred, read-barred, write-barred, commit-barred, Refusal, sent-wrongly, at-wrong-time, by-policy}
+use Rattle.history.specs.Calls.{Call, begin, read, write, collect, snapshot, commit, abort, single, listed, Wrong, no-task, no-variable, list-length, short-buffer}
+use Rattle.history.specs.Calls.{Untimely, not-idle, is-idle, is-broken, Barred, read-barred, write-barred, commit-barred, sent-wrongly, at-wrong-time, by-policy}
 use Rattle.history.specs.Calls.{Answer, done, value, values, refused}
 
 -- a task's stage: without a transaction, in one, or thrown out of one and not yet told to end it

@@ -1,7 +1,6 @@
 -- The calls on a table and their answers, as data: any arguments, and whatever a table may say.
 use Prim.Native.Nat.{ℕ, _-_}
-use mathlib.Core.List.{List, [], _∷_, _++_}
-use mathlib.Core.Option.{Option, none, some}
+use mathlib.Core.List.{List, [], _++_}
 use lib.IntN.{ℤ, pos}
 use lib.ListN.{length, take, replicate}
 
@@ -34,6 +33,7 @@ pub data Barred : Type 0 where
   write-barred : ℕ → Barred
   commit-barred : Barred
 
+-- why a call is refused: the first check that fails decides
 pub data Refusal : Type 0 where
   sent-wrongly : Wrong → Refusal
   at-wrong-time : Untimely → Refusal

@@ -33,13 +33,14 @@ pub record One-moment (L : Ledger) (T : Transaction) : Type 0 where
   pub until : moment ≤ T .last
   pub agree : (v : ℕ) (x : ℤ) → Shared-answer T v x → values v ≡ x
 
--- the variables that a refused collect had passed, but for what the transaction had written, count as read
+-- v stands in the list of a refused collect, before the refused place
 abbrev pub Listed : Fate → ℕ → Type 0
 Listed unended v = ⊥
 Listed committed v = ⊥
 Listed aborted v = ⊥
 Listed (policy-refused asked passed) v = List·Memᴰ v passed
 
+-- such a variable counts as read, unless the transaction had written it
 abbrev pub Counts-as-read : Transaction → ℕ → Type 0
 Counts-as-read T v = Listed (T .fate) v × Unwritten T v
 

@@ -2,6 +2,7 @@ pub mod Update
 pub mod Calls
 pub mod Answers
 pub mod Steps
+pub mod Counts
 pub mod Transactions
 pub mod Alone
 pub mod Serial

@@ -5,13 +5,13 @@ use mathlib.Core.Bool.{Bool, true, false}
 use mathlib.Core.Logic.{_≢_}
 use mathlib.Core.List.{List, [], _∷_}
 use mathlib.Core.Option.{Option}
-use lib.IntN.{ℤ, pos}
+use lib.IntN.{pos}
 use Rattle.policy.specs.Facts.{Facts, Fresh}
 use Rattle.policy.specs.Moves.{Move}
 use Rattle.history.specs.Calls.{Call, Answer}
 use Rattle.history.specs.Answers.{Stage, idle, active, broken}
 use Rattle.history.specs.Steps.{State, Step}
-use Rattle.history.specs.Transactions.{Fate, policy-refused, Transaction, Ledger, Entry, History, read-off}
+use Rattle.history.specs.Transactions.{policy-refused, Transaction, Ledger, History, read-off}
 use Rattle.history.specs.Law.{Lasts, Known, Lawful}
 
 -- a task at this stage has a transaction
@@ -60,6 +60,7 @@ module _ {P : Type 0} (facts : P → Facts) where
     abbrev pub Never-refused-alone : Type 0
     Never-refused-alone = (a b : State P) (h : History) → New a → Leads a b h → Unrefused-alone h
 
-    -- every state that a run of a new table reaches is sound
-    abbrev pub Always-sound : Type 0
-    Always-sound = (a b : State P) (h : History) → New a → Leads a b h → Sound b
+    -- a new table is sound, and every call keeps it so
+    pub record Stays-sound : Type 0 where
+      pub new : (a : State P) → New a → Sound a
+      pub step : (c : Call) (r : Answer) (a b : State P) → Step facts after strict c a r b → Sound a → Sound b

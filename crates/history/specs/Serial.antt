@@ -5,6 +5,7 @@ use lib.IntN.{ℤ}
 use Rattle.history.specs.Transactions.{Fate, unended, committed, aborted, policy-refused, Transaction}
 use Rattle.history.specs.Alone.{nothing-pending, Exact, run-alone}
 
+-- a transaction is kept if this is the end of a committed one
 abbrev pub if-committed : Fate → Transaction → List Transaction → List Transaction
 if-committed unended T Ts = Ts
 if-committed committed T Ts = T ∷ Ts

@@ -21,6 +21,7 @@ pub record State (P : Type 0) : Type 0 where
   pub pending : ℕ → ℕ → ℤ
   pub shared : ℕ → ℤ
 
+-- every variable is 0
 abbrev pub zeros : ℕ → ℤ
 zeros v = pos 0
 

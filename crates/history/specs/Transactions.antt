@@ -95,6 +95,7 @@ longer ds n T = record { task = T .task; first = T .first; last = n; accesses = 
 abbrev pub over-with : Fate → ℕ → Transaction → Transaction
 over-with z n T = record { task = T .task; first = T .first; last = n; accesses = T .accesses; fate = z }
 
+-- accesses are added to the transaction that a task has, if it has one
 abbrev pub grown : List Access → ℕ → Option Transaction → Option Transaction
 grown ds n none = none
 grown ds n (some T) = some (longer ds n T)
@@ -116,6 +117,7 @@ note (whole t ds z) s L = record {
   moments = s ∷ L .moments;
 }
 
+-- no transaction yet, and no call
 abbrev pub new-ledger : Ledger
 new-ledger = record { ended = []; current = λ t. none; moments = [] }
 
