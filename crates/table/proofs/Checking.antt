@@ -40,7 +40,7 @@ untimely-refusal not-idle = refl
 untimely-refusal is-idle = refl
 untimely-refusal is-broken = refl
 
-unless-none : (b : Bool) (why : Wrong) → unless b why ≡ none → b ≡ true
+pub unless-none : (b : Bool) (why : Wrong) → unless b why ≡ none → b ≡ true
 unless-none true why e = refl
 unless-none false why e = let z : _≡_ {A = ℕ} 0 1 = cc in absurd (omega arith)
 

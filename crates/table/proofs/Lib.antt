@@ -8,3 +8,6 @@ pub mod Granting
 pub mod Accessing
 pub mod Sight
 pub mod Ending
+pub mod ListChecks
+pub mod ListReads
+pub mod CollectSteps

@@ -7,7 +7,9 @@ use crate::checks::check_call;
 use crate::fault::FromPolicyFault;
 use crate::fault::TableFault;
 use crate::stage::Call;
-use crate::stage::Stage;
+use crate::stage::break_task;
+use crate::stage::end_task;
+use crate::stage::open_task;
 use crate::stage::set_pending;
 use crate::table::Table;
 use policy::Granted;
@@ -21,7 +23,7 @@ impl<P: Policy> Table<P> {
         check_call(&mut self.stages, task, Call::Begin)?;
         match self.policy.begin(task) {
             Ok(granted) => {
-                self.stages[task as usize] = Stage::begun();
+                open_task(&mut self.stages, task);
                 Ok(granted)
             }
             Err(fault) => Err(TableFault::from(fault)),
@@ -37,7 +39,7 @@ impl<P: Policy> Table<P> {
         match self.policy.read(task, variable) {
             Ok(_) => Ok(Reading { value }),
             Err(fault) => {
-                self.stages[task as usize] = Stage::Broken;
+                break_task(&mut self.stages, task);
                 Err(TableFault::from(fault))
             }
         }
@@ -54,7 +56,7 @@ impl<P: Policy> Table<P> {
                 Ok(granted)
             }
             Err(fault) => {
-                self.stages[task as usize] = Stage::Broken;
+                break_task(&mut self.stages, task);
                 Err(TableFault::from(fault))
             }
         }
@@ -67,7 +69,7 @@ impl<P: Policy> Table<P> {
         check_call(&mut self.stages, task, Call::Commit)?;
         let seen = self.look_all(task);
         let answer = self.policy.commit(task);
-        self.stages[task as usize] = Stage::Idle;
+        end_task(&mut self.stages, task);
         match answer {
             Ok(granted) => {
                 self.shared = seen;
@@ -83,7 +85,7 @@ impl<P: Policy> Table<P> {
     {
         check_call(&mut self.stages, task, Call::Abort)?;
         let _ = self.policy.abort(task);
-        self.stages[task as usize] = Stage::Idle;
+        end_task(&mut self.stages, task);
         Ok(Granted)
     }
 }

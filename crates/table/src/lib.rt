@@ -2,7 +2,9 @@
 pub mod answer;
 pub mod calls;
 pub mod checks;
+pub mod collect;
 pub mod fault;
+pub mod list;
 pub mod making;
 pub mod seeing;
 pub mod stage;

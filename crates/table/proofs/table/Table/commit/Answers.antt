@@ -21,7 +21,7 @@ returns-in-Ok g c sound =
     let same : c .check-call .last .stages ≡ c .args .self .now .stages =
     commit-kept (c .args .task) (c .args .self .now .stages) (c .check-call .last .stages) (c .in-Continue-check-call .ensures tt .answer) (c .check-call .ensures .moved) in
     stepped (g .P·Policy .facts) (g .P·Policy .after) (g .P·Policy .strict) (g .P·Policy·met .keeps) (g .P·Policy·met .proper) (commit (c .args .task)) _ _ _ sound
-    (rw same (commit-granted (g .P·Policy .facts) (g .P·Policy .after) (g .P·Policy .strict) (c .args .task) (c .args .self .now .policy) (c .commit-answer .last .self)
+    (rw (c .end-task .ensures, same) (commit-granted (g .P·Policy .facts) (g .P·Policy .after) (g .P·Policy .strict) (c .args .task) (c .args .self .now .policy) (c .commit-answer .last .self)
     (c .args .self .now .stages) (c .args .self .now .shared) (c .check-call .ensures .all) sound tt (c .in-Continue-check-call .ensures tt .answer)
     (c .in-Ok .granted) (c .look-all-seen .result)
     (seen-all (g .P·Policy .facts) (c .args .self .now) (g .P·Policy·met .proper (c .args .self .now .policy)) (c .args .task) (c .look-all-seen .result)
@@ -33,6 +33,6 @@ returns-in-Err g c sound =
     let same : c .check-call .last .stages ≡ c .args .self .now .stages =
     commit-kept (c .args .task) (c .args .self .now .stages) (c .check-call .last .stages) (c .in-Continue-check-call .ensures tt .answer) (c .check-call .ensures .moved) in
     stepped (g .P·Policy .facts) (g .P·Policy .after) (g .P·Policy .strict) (g .P·Policy·met .keeps) (g .P·Policy·met .proper) (commit (c .args .task)) _ _ _ sound
-    (rw (same, c .from .ensures) (commit-refused-by (g .P·Policy .facts) (g .P·Policy .after) (g .P·Policy .strict) (c .args .task) (c .args .self .now .policy)
+    (rw (c .end-task .ensures, same, c .from .ensures) (commit-refused-by (g .P·Policy .facts) (g .P·Policy .after) (g .P·Policy .strict) (c .args .task) (c .args .self .now .policy)
     (c .commit-answer .last .self) (c .args .self .now .stages) (c .args .self .now .shared) (c .check-call .ensures .all) sound tt
     (c .in-Continue-check-call .ensures tt .answer) (c .in-Err .fault) (c .in-Err .ensures tt .answer) (c .in-Err .ensures tt .moved)))
