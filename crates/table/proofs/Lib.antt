@@ -11,3 +11,4 @@ pub mod Ending
 pub mod ListChecks
 pub mod ListReads
 pub mod CollectSteps
+pub mod SnapshotSteps

@@ -7,6 +7,7 @@ pub mod fault;
 pub mod list;
 pub mod making;
 pub mod seeing;
+pub mod snapshot;
 pub mod stage;
 pub mod table;
 pub mod ticket;
