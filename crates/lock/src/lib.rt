@@ -5,6 +5,8 @@ use transactions::Transactions;
 
 mod calls;
 
+pub use calls::LockPolicy;
+
 // The read set and the write set of each open task are its locks; no variable is locked by two tasks.
 #[derive(Drop)]
 pub struct Lock {

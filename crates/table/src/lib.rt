@@ -7,3 +7,4 @@ pub mod making;
 pub mod seeing;
 pub mod stage;
 pub mod table;
+pub mod ticket;

@@ -1,9 +1,6 @@
-use borrow.Author.Needs.{needs}
 use mathlib.Core.Path.{_≡_, refl, _∙_}
-use lib.ListN.{length}
 use Rattle.std.proofs.shelf.Lists.{set-getD}
 use Rattle.std.proofs.shelf.Results.{err-from-errBy}
-use Rattle.policy.specs.Limits.{tasks}
 use Rattle.history.specs.Calls.{abort}
 use Rattle.table.specs.declared.stage.Stage.the-variants.{Idle}
 use Rattle.table.proofs.Ending.{abort-granted}
@@ -22,7 +19,8 @@ returns-in-Break-check-call g c sound =
 
 pub returns : need.returns
 returns g c sound =
-    let same = c .check-call .ensures .moved ∙ set-getD (c .args .self .now .stages) (c .args .task) Idle in
+    let same : c .check-call .last .stages ≡ c .args .self .now .stages =
+    c .check-call .ensures .moved ∙ set-getD (c .args .self .now .stages) (c .args .task) Idle in
     stepped (g .P·Policy .facts) (g .P·Policy .after) (g .P·Policy .strict) (g .P·Policy·met .keeps) (g .P·Policy·met .proper) (abort (c .args .task)) _ _ _ sound
     (rw same (abort-granted (g .P·Policy .facts) (g .P·Policy .after) (g .P·Policy .strict) (c .args .task) (c .args .self .now .policy) (c .abort .last .self)
     (c .args .self .now .stages) (c .args .self .now .shared) (c .check-call .ensures .all) sound tt (c .abort .result)
