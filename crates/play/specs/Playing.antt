@@ -12,7 +12,7 @@ use Rattle.policy.specs.Facts.{Facts}
 use Rattle.policy.specs.Moves.{Move}
 use Rattle.history.specs.Calls.{Answer}
 use Rattle.history.specs.Steps.{State, Step}
-use Rattle.history.specs.Runs.{New}
+use Rattle.history.specs.Runs.{Sound, New}
 use Rattle.table.specs.Making.{Aborted-below}
 use Rattle.play.specs.Printed.{granted-text, refused-text, answer-text, printed}
 use Rattle.play.specs.Performing.{call-of}
@@ -26,6 +26,11 @@ module _ {P : Type 0} (facts : P → Facts) (after : P → Move → P → Type 0
   pub data Obeys (l : List ℕ) (a : State P) : List ℕ → State P → Type 0 where
     no-command : (why : Misfit) → parsed l ≡ Err why → Obeys l a (refused-text no-command-number) a
     performed : (c : Command) (r : Answer) (b : State P) → parsed l ≡ Ok c → Step facts after strict (call-of c) a r b → Obeys l a (answer-text r) b
+
+  -- the line does so, and stages and policy agree after it
+  pub record Obeyed (l : List ℕ) (a : State P) (text : List ℕ) (b : State P) : Type 0 where
+    pub obeys : Obeys l a text b
+    pub sound : Sound facts b
 
   -- the first n lines of a text, of which ls come after the first, have printed `out` and led from the table a to b
   pub data Plays (a : State P) : ℕ → List (List ℕ) → List ℕ → State P → Type 0 where

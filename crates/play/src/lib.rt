@@ -3,3 +3,4 @@ pub mod outcome;
 pub mod performing;
 mod printing;
 mod room;
+mod running;
