@@ -21,13 +21,9 @@ impl<P: Policy> Table<P> {
         ensures { λ r. ⌜ Performs (P·Policy .facts) (P·Policy .after) (P·Policy .strict) (begins task) (now (self .entry)) («done-or» r) (now (self .exit)) ⌝ }
     {
         check_call(&mut self.stages, task, Call::Begin)?;
-        match self.policy.begin(task) {
-            Ok(granted) => {
-                open_task(&mut self.stages, task);
-                Ok(granted)
-            }
-            Err(fault) => Err(TableFault::from(fault)),
-        }
+        let granted = self.policy.begin(task)?;
+        open_task(&mut self.stages, task);
+        Ok(granted)
     }
 
     // Reads a variable.
@@ -70,13 +66,9 @@ impl<P: Policy> Table<P> {
         let seen = self.look_all(task);
         let answer = self.policy.commit(task);
         end_task(&mut self.stages, task);
-        match answer {
-            Ok(granted) => {
-                self.shared = seen;
-                Ok(granted)
-            }
-            Err(fault) => Err(TableFault::from(fault)),
-        }
+        let granted = answer?;
+        self.shared = seen;
+        Ok(granted)
     }
 
     // Ends the transaction and drops its pending values. The policy has ended that of a broken task already.
