@@ -30,15 +30,14 @@ zero-at (suc n) zero = refl
 zero-at (suc n) (suc v) = zero-at n v
 
 module _ {P : Type 0} (facts : P → Facts) (after : P → Move → P → Type 0) (strict : Bool) where
-  pub begin-granted : {x : Unit {0}} (t : ℕ) (p q : P) (xs ys : List Stage) (b : Stage) (ss : List ℤ)
+  pub begin-granted : {x : Unit {0}} (t : ℕ) (p q : P) (xs : List Stage) (ss : List ℤ)
       → length xs ≡ tasks
       → Ok x ≡ passed (task-wrong t) (must-be-idle (stage-of (getD xs t Idle)))
-      → ys ≡ xs → b ≡ Open (replicate variables (pos 0))
       → after p (begins t) q
-      → Step facts after strict (begin t) (state p xs ss) done (state q (set ys t b) ss)
-  begin-granted t p q xs ys b ss len e same new move =
-      rw (same, new) (plain-step facts after strict (begin t) done p q xs (set xs t (Open zeros)) (Open zeros) ss ss refl refl answered (q, move, refl)
-      (put-set xs t (Open zeros) below) refl (zero-at variables) (λ v. refl))
+      → Step facts after strict (begin t) (state p xs ss) done (state q (set xs t (Open (replicate variables (pos 0)))) ss)
+  begin-granted t p q xs ss len e move =
+      plain-step facts after strict (begin t) done p q xs (set xs t (Open zeros)) (Open zeros) ss ss refl refl answered (q, move, refl)
+      (put-set xs t (Open zeros) below) refl (zero-at variables) (λ v. refl)
     where
       zeros : List ℤ
       zeros = replicate variables (pos 0)

@@ -7,7 +7,9 @@ use crate::checks::check_call;
 use crate::fault::FromPolicyFault;
 use crate::fault::TableFault;
 use crate::stage::Call;
-use crate::stage::Stage;
+use crate::stage::break_task;
+use crate::stage::end_task;
+use crate::stage::open_task;
 use crate::stage::set_pending;
 use crate::table::Table;
 use policy::Granted;
@@ -19,13 +21,9 @@ impl<P: Policy> Table<P> {
         ensures { λ r. ⌜ Performs (P·Policy .facts) (P·Policy .after) (P·Policy .strict) (begins task) (now (self .entry)) («done-or» r) (now (self .exit)) ⌝ }
     {
         check_call(&mut self.stages, task, Call::Begin)?;
-        match self.policy.begin(task) {
-            Ok(granted) => {
-                self.stages[task as usize] = Stage::begun();
-                Ok(granted)
-            }
-            Err(fault) => Err(TableFault::from(fault)),
-        }
+        let granted = self.policy.begin(task)?;
+        open_task(&mut self.stages, task);
+        Ok(granted)
     }
 
     // Reads a variable.
@@ -37,7 +35,7 @@ impl<P: Policy> Table<P> {
         match self.policy.read(task, variable) {
             Ok(_) => Ok(Reading { value }),
             Err(fault) => {
-                self.stages[task as usize] = Stage::Broken;
+                break_task(&mut self.stages, task);
                 Err(TableFault::from(fault))
             }
         }
@@ -54,7 +52,7 @@ impl<P: Policy> Table<P> {
                 Ok(granted)
             }
             Err(fault) => {
-                self.stages[task as usize] = Stage::Broken;
+                break_task(&mut self.stages, task);
                 Err(TableFault::from(fault))
             }
         }
@@ -67,14 +65,10 @@ impl<P: Policy> Table<P> {
         check_call(&mut self.stages, task, Call::Commit)?;
         let seen = self.look_all(task);
         let answer = self.policy.commit(task);
-        self.stages[task as usize] = Stage::Idle;
-        match answer {
-            Ok(granted) => {
-                self.shared = seen;
-                Ok(granted)
-            }
-            Err(fault) => Err(TableFault::from(fault)),
-        }
+        end_task(&mut self.stages, task);
+        let granted = answer?;
+        self.shared = seen;
+        Ok(granted)
     }
 
     // Ends the transaction and drops its pending values. The policy has ended that of a broken task already.
@@ -83,7 +77,7 @@ impl<P: Policy> Table<P> {
     {
         check_call(&mut self.stages, task, Call::Abort)?;
         let _ = self.policy.abort(task);
-        self.stages[task as usize] = Stage::Idle;
+        end_task(&mut self.stages, task);
         Ok(Granted)
     }
 }

@@ -34,13 +34,6 @@ pub(crate) fn zeros() -> [i32; VARIABLES]
 }
 
 impl Stage {
-    // A transaction that has just begun: nothing is pending.
-    pub(crate) fn begun() -> Stage
-        ensures { λ r. ⌜ r ≡ Stage.Open (replicate variables (pos 0)) ⌝ }
-    {
-        Stage::Open(zeros())
-    }
-
     // The pending value of a variable: 0 where the task isn't in a transaction.
     pub(crate) fn pending(&self, v: usize) -> i32
         requires { ⌜ v < variables ⌝ }
@@ -51,6 +44,30 @@ impl Stage {
             _ => 0,
         }
     }
+}
+
+// Opens a transaction: nothing is pending.
+pub(crate) fn open_task(stages: &mut [Stage; TASKS], task: u8)
+    requires { ⌜ task < tasks ⌝ }
+    ensures { λ _. ⌜ now (stages .exit) ≡ set (now (stages .entry)) task (Stage.Open (replicate variables (pos 0))) ⌝ }
+{
+    stages[task as usize] = Stage::Open(zeros());
+}
+
+// Throws a task out of its transaction: nothing of it stays pending.
+pub(crate) fn break_task(stages: &mut [Stage; TASKS], task: u8)
+    requires { ⌜ task < tasks ⌝ }
+    ensures { λ _. ⌜ now (stages .exit) ≡ set (now (stages .entry)) task Stage.Broken ⌝ }
+{
+    stages[task as usize] = Stage::Broken;
+}
+
+// Ends the transaction of a task: nothing of it stays pending.
+pub(crate) fn end_task(stages: &mut [Stage; TASKS], task: u8)
+    requires { ⌜ task < tasks ⌝ }
+    ensures { λ _. ⌜ now (stages .exit) ≡ set (now (stages .entry)) task Stage.Idle ⌝ }
+{
+    stages[task as usize] = Stage::Idle;
 }
 
 // Changes the value of one variable.

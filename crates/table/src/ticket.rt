@@ -1,7 +1,11 @@
 // Tickets: a granted begin hands one out, to be given back to a commit or an abort.
-ghost use Rattle.history.specs.Calls.{begin as begins, read as reads, write as writes, commit as commits, abort as aborts};
+ghost use mathlib.Core.Path.{_≡_};
+ghost use lib.ListN.{length};
+ghost use Rattle.history.specs.Calls.{begin as begins, read as reads, write as writes, collect as collects, commit as commits, abort as aborts};
+ghost use Rattle.table.specs.Collect.{«values-or», replied};
 ghost use Rattle.table.specs.Views.{Performs, «done-or», «value-or»};
 ghost use Rattle.table.specs.Tickets.{«ticket-or», «Hands-out»};
+use crate::answer::Collected;
 use crate::answer::Reading;
 use crate::fault::TableFault;
 use crate::table::Table;
@@ -42,6 +46,19 @@ impl<P: Policy> Table<P> {
         ensures { λ r. ⌜ Performs (P·Policy .facts) (P·Policy .after) (P·Policy .strict) (writes (now (ticket .entry) .task) variable value) (now (self .entry)) («done-or» r) (now (self .exit)) ⌝ }
     {
         self.write(ticket.task, variable, value)
+    }
+
+    // Reads a list of variables into a reply buffer.
+    pub fn collect_by(
+        &mut self,
+        ticket: &Ticket,
+        list: &[u8],
+        reply: &mut [i32],
+    ) -> Result<Collected, TableFault>
+        ensures step { λ r. ⌜ Performs (P·Policy .facts) (P·Policy .after) (P·Policy .strict) (collects (now (ticket .entry) .task) (now (list .entry)) (length (now (reply .entry)))) (now (self .entry)) («values-or» (now (list .entry)) (now (reply .exit)) r) (now (self .exit)) ⌝ }
+        ensures buffer { λ r. ⌜ now (reply .exit) ≡ replied («values-or» (now (list .entry)) (now (reply .exit)) r) (length (now (reply .entry))) ⌝ }
+    {
+        self.collect(ticket.task, list, reply)
     }
 
     // Commits. The ticket is spent, also where the commit is refused.

@@ -22,6 +22,6 @@ returns g c sound =
     let same : c .check-call .last .stages ≡ c .args .self .now .stages =
     c .check-call .ensures .moved ∙ set-getD (c .args .self .now .stages) (c .args .task) Idle in
     stepped (g .P·Policy .facts) (g .P·Policy .after) (g .P·Policy .strict) (g .P·Policy·met .keeps) (g .P·Policy·met .proper) (abort (c .args .task)) _ _ _ sound
-    (rw same (abort-granted (g .P·Policy .facts) (g .P·Policy .after) (g .P·Policy .strict) (c .args .task) (c .args .self .now .policy) (c .abort .last .self)
+    (rw (c .end-task .ensures, same) (abort-granted (g .P·Policy .facts) (g .P·Policy .after) (g .P·Policy .strict) (c .args .task) (c .args .self .now .policy) (c .abort .last .self)
     (c .args .self .now .stages) (c .args .self .now .shared) (c .check-call .ensures .all) sound tt (c .abort .result)
     (c .in-Continue-check-call .ensures tt .answer) (c .abort .ensures .answer) (c .abort .ensures .moved)))

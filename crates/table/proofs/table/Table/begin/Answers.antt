@@ -1,4 +1,4 @@
-use mathlib.Core.Path.{refl, _∙_}
+use mathlib.Core.Path.{_≡_, refl, _∙_}
 use Rattle.std.proofs.shelf.Lists.{set-getD}
 use Rattle.std.proofs.shelf.Results.{err-from-errBy}
 use Rattle.history.specs.Calls.{begin}
@@ -17,10 +17,10 @@ returns-in-Break-check-call g c sound =
     (c .args .self .now .policy) (c .args .self .now .stages) (c .check-call .last .stages) (c .args .self .now .shared)
     (c .in-Break-check-call .ensures tt .answer) same (λ x s. refl)))
 
-pub returns-in-Ok : need.returns-in-Ok
-returns-in-Ok g c sound =
-    let same = c .check-call .ensures .moved ∙ set-getD (c .args .self .now .stages) (c .args .task) Idle in
+pub returns : need.returns
+returns g c sound =
+    let same : c .check-call .last .stages ≡ c .args .self .now .stages =
+    c .check-call .ensures .moved ∙ set-getD (c .args .self .now .stages) (c .args .task) Idle in
     stepped (g .P·Policy .facts) (g .P·Policy .after) (g .P·Policy .strict) (g .P·Policy·met .keeps) (g .P·Policy·met .proper) (begin (c .args .task)) _ _ _ sound
-    (begin-granted (g .P·Policy .facts) (g .P·Policy .after) (g .P·Policy .strict) (c .args .task) (c .args .self .now .policy) (c .begin .last .self)
-    (c .args .self .now .stages) (c .check-call .last .stages) (c .begun .result) (c .args .self .now .shared) (c .check-call .ensures .all)
-    (c .in-Continue-check-call .ensures tt .answer) same (c .begun .ensures) (c .in-Ok .ensures tt .moved))
+    (rw (c .open-task .ensures, same) (begin-granted (g .P·Policy .facts) (g .P·Policy .after) (g .P·Policy .strict) (c .args .task) (c .args .self .now .policy) (c .begin .last .self)
+    (c .args .self .now .stages) (c .args .self .now .shared) (c .check-call .ensures .all) (c .in-Continue-check-call .ensures tt .answer) (c .in-Continue-granted .ensures tt .moved)))
