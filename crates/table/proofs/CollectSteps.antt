@@ -73,10 +73,10 @@ module _ {P : Type 0} (facts : P → Facts) (after : P → Move → P → Type 0
       seen : take (length vs) buffer ≡ map (sees facts (collect t vs room) (state p xs ss) p) vs
       seen = reads in-one .1 ∙ (λ j. map (look (facts p) (state p (once j) ss .pending) (state p (once j) ss .shared) t) vs)
 
-  pub collect-refused : (f : TableFault) → t < length xs → (facts p .active t ≡ true → Refused-read facts after t vs p q f)
-      → Stepped facts after strict (collect t vs room) (state p xs ss) (refusing (refusal-of f)) (state q (set zs t Broken) ws)
-  collect-refused f h refusal =
-      stepped facts after strict keeps proper (collect t vs room) (state p xs ss) (refusing (refusal-of f)) (state q (set zs t Broken) ws) sound
+  pub collect-refused : (f : TableFault) (bs : List Stage) → bs ≡ set zs t Broken → t < length xs → (facts p .active t ≡ true → Refused-read facts after t vs p q f)
+      → Stepped facts after strict (collect t vs room) (state p xs ss) (refusing (refusal-of f)) (state q bs ws)
+  collect-refused f bs broken h refusal =
+      stepped facts after strict keeps proper (collect t vs room) (state p xs ss) (refusing (refusal-of f)) (state q bs ws) sound
       (subst (λ (b : State P). Makes facts after strict (collect t vs room) (state p xs ss) (refusing (refusal-of f)) b) (sym left)
       (subst (λ (g : TableFault). Makes facts after strict (collect t vs room) (state p xs ss) (refusing (refusal-of g)) (state q (set xs t Broken) ss)) (sym (r .told)) step))
     where
@@ -89,8 +89,8 @@ module _ {P : Type 0} (facts : P → Facts) (after : P → Move → P → Type 0
       v : ℕ
       v = getD vs i 0
 
-      left : state q (set zs t Broken) ws ≡ state q (set xs t Broken) ss
-      left = λ j. state q (set ((stages ∙ once) j) t Broken) (values-kept j)
+      left : state q bs ws ≡ state q (set xs t Broken) ss
+      left = λ j. state q ((broken ∙ ap (λ (l : List Stage). set l t Broken) (stages ∙ once)) j) (values-kept j)
 
       put : Put xs t Broken (set xs t Broken)
       put = put-set xs t Broken h

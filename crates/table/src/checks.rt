@@ -42,6 +42,7 @@ pub(crate) fn check_access(task: u8, variable: u8) -> Result<(), TableFault>
 // Whether the call comes at the right time for its task. A commit makes a broken task idle.
 pub(crate) fn admit(stages: &mut [Stage; TASKS], task: u8, call: Call) -> Result<(), TableFault>
     requires { ⌜ task < tasks ⌝ }
+    ensures all { λ _. ⌜ length (now (stages .entry)) ≡ tasks ⌝ }
     ensures answer { λ r. ⌜ r ≡ passed nothing («call-untimely» call (getD (now (stages .entry)) task idle)) ⌝ }
     ensures moved { λ _. ⌜ now (stages .exit) ≡ «all-once-called» call task (now (stages .entry)) ⌝ }
 {

@@ -10,7 +10,7 @@ use crate::fault::TableFault;
 use crate::list::check_list;
 use crate::list::clear;
 use crate::stage::Call;
-use crate::stage::Stage;
+use crate::stage::break_task;
 use crate::table::Table;
 use policy::Policy;
 
@@ -32,7 +32,7 @@ impl<P: Policy> Table<P> {
         match self.read_list(task, list, reply) {
             Ok(collected) => Ok(collected),
             Err(fault) => {
-                self.stages[task as usize] = Stage::Broken;
+                break_task(&mut self.stages, task);
                 Err(fault)
             }
         }

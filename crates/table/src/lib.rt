@@ -1,5 +1,6 @@
 // Transactions over 64 shared variables for 8 tasks, under any policy.
 pub mod answer;
+pub mod apart;
 pub mod calls;
 pub mod checks;
 pub mod collect;

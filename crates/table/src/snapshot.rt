@@ -29,9 +29,7 @@ impl<P: Policy> Table<P> {
         clear(reply);
         check_list(task, list, reply.len())?;
         admit(&mut self.stages, task, Call::Begin)?;
-        if let Err(fault) = self.policy.begin(task) {
-            return Err(TableFault::from(fault));
-        }
+        let _ = self.policy.begin(task)?;
         let collected = self.read_list(task, list, reply)?;
         match self.policy.commit(task) {
             Ok(_) => Ok(collected),

@@ -89,10 +89,10 @@ returns-in-Err g c =
     let fine = passed-ok (wrong-list t vs room) none (rw len at (c .in-Continue-check-list .ensures tt)) .0 in
     let timely = passed-ok none (must-be-active (stage-of (getD (s .stages) t Idle))) (c .in-Continue-admit .ensures tt .answer) .1 in
     let right = list-right t vs room fine in
-    let below : t < length (s .stages) = search needs in
+    let below : t < length (s .stages) = omega (arith, c .admit .ensures .all) in
     record {
       step = λ sound. collect-refused (g .P·Policy .facts) (g .P·Policy .after) (g .P·Policy .strict) (g .P·Policy·met .keeps) (g .P·Policy·met .proper) t vs room
           (s .policy) (u .policy) (s .stages) (c .admit .last .stages) (u .stages) (s .shared) (u .shared) once (c .read-list .ensures .stages) (c .read-list .ensures .shared)
-          fine timely sound (c .in-Err .fault) below (c .in-Err .ensures tt .reads);
+          fine timely sound (c .in-Err .fault) (c .break-task .last .stages) (c .break-task .ensures) below (c .in-Err .ensures tt .reads);
       buffer = c .in-Err .ensures tt .leaves ∙ ap (λ (n : ℕ). replicate n (pos 0)) len ∙ sym (replied-refusing (refusal-of (c .in-Err .fault)) room);
     }

@@ -73,7 +73,7 @@ returns-in-Break-collected g c =
     record {
       step = λ sound. rw (p .1, p .2) (snapshot-refused (g .P·Policy .facts) (g .P·Policy .after) (g .P·Policy .strict) (g .P·Policy·met .keeps) (g .P·Policy·met .proper) t vs room
           (s .policy) (c .begin .last .self) (u .policy) (s .stages) (c .admit .last .stages) (u .stages) (s .shared) (u .shared) once (c .read-list .ensures .stages)
-          (c .read-list .ensures .shared) fine timely sound (c .in-rest .ensures tt .moved) f (c .in-Break-collected .ensures tt .reads));
+          (c .read-list .ensures .shared) fine timely sound (c .in-Continue-begin .ensures tt .moved) f (c .in-Break-collected .ensures tt .reads));
       buffer = rw (p .1) (c .in-Break-collected .ensures tt .leaves ∙ ap (λ (n : ℕ). replicate n (pos 0)) len ∙ sym (replied-refusing (refusal-of (p .0)) room));
     }
 
@@ -95,14 +95,14 @@ returns-in-Ok g c =
     record {
       step = λ sound. snapshot-granted (g .P·Policy .facts) (g .P·Policy .after) (g .P·Policy .strict) (g .P·Policy·met .keeps) (g .P·Policy·met .proper) t vs room
           (s .policy) (c .begin .last .self) (u .policy) (s .stages) (c .admit .last .stages) (u .stages) (s .shared) (u .shared) once (c .read-list .ensures .stages)
-          (c .read-list .ensures .shared) fine timely sound (c .in-rest .ensures tt .moved)
+          (c .read-list .ensures .shared) fine timely sound (c .in-Continue-begin .ensures tt .moved)
           (c .in-Continue-collected .collected .reads) (c .read-list .last .reply) (c .commit .last .self) (c .in-Continue-collected .ensures tt .reads)
           (c .in-Ok .ensures tt .moved);
       buffer = values-then-zeros (length vs) room (c .read-list .last .reply) (omega arith) old;
     }
 
-pub returns-in-Err-commit : need.returns-in-Err-commit
-returns-in-Err-commit g c =
+pub returns-in-Err : need.returns-in-Err
+returns-in-Err g c =
     let t = c .args .task in
     let vs = c .args .list .now in
     let s = c .args .self .now in
@@ -116,8 +116,8 @@ returns-in-Err-commit g c =
     record {
       step = λ sound. absurd (commit-never-refused (g .P·Policy .facts) (g .P·Policy .after) (g .P·Policy .strict) (g .P·Policy·met .keeps) (g .P·Policy·met .proper) t vs room
           (s .policy) (c .begin .last .self) (u .policy) (s .stages) (c .admit .last .stages) (u .stages) (s .shared) (u .shared) once (c .read-list .ensures .stages)
-          (c .read-list .ensures .shared) fine timely sound (c .in-rest .ensures tt .moved)
+          (c .read-list .ensures .shared) fine timely sound (c .in-Continue-begin .ensures tt .moved)
           (c .in-Continue-collected .collected .reads) (c .in-Continue-collected .ensures tt .reads (g .P·Policy·met .keeps (s .policy) (c .begin .last .self) (begins t)
-          (c .in-rest .ensures tt .moved) .active) .0) (c .in-Err-commit .ensures tt .answer));
-      buffer = c .clear-in-Err-commit .ensures ∙ ap (λ (n : ℕ). replicate n (pos 0)) all ∙ sym (replied-refusing (refusal-of (c .from-in-Err-commit .result)) room);
+          (c .in-Continue-begin .ensures tt .moved) .active) .0) (c .in-Err .ensures tt .answer));
+      buffer = c .clear-in-Err .ensures ∙ ap (λ (n : ℕ). replicate n (pos 0)) all ∙ sym (replied-refusing (refusal-of (c .from .result)) room);
     }
