@@ -1,2 +1,5 @@
 mod Adding
 mod Lengths
+mod Obeying
+mod Standing
+mod FirstLine
