@@ -15,12 +15,17 @@ use Rattle.schedule.specs.Faults.{fault-line, fault-number}
 use Rattle.schedule.specs.declared.choice.Choice.{Choice}
 use Rattle.schedule.specs.declared.fault.TextFault.{TextFault}
 use Rattle.schedule.specs.declared.fault.TextFault.the-variants.{TooLong}
+use Rattle.policy.specs.Facts.{Facts}
+use Rattle.policy.specs.Moves.{Move}
+use Rattle.eager.specs.declared.Eager.{Eager}
+use Rattle.eager.specs.Layer.{fenced, After as Layer-after}
 use Rattle.table.specs.Faults.{numbered}
 use Rattle.table.specs.declared.fault.TableFault.{TableFault}
 use Rattle.play.specs.declared.outcome.NoRoom.{NoRoom}
 use Rattle.play.specs.Room.{Adds, Within, Too-long, Fronts}
 use Rattle.play.specs.Printed.{printed, refused-text, longest-line}
-use Rattle.play.specs.Output.{Runs, Says, most-printed}
+use Rattle.play.specs.Playing.{Over}
+use Rattle.play.specs.Output.{From, From-eager, Runs, Says, most-printed}
 
 -- a text has at most as many lines as bytes
 longer-by-one : (b : ℕ) (ps : List (List ℕ)) → length (longer b ps) ≤ length ps + 1
@@ -39,7 +44,7 @@ lines-few (b ∷ s) = by (eqb b line-feed) (lines s) (lines-few s)
 pub named : (s : List ℕ) (c : Choice) → Ok c ≡ header-of {F = TableFault} s → (length s ≤ longest-text) × (0 < length (lines s))
 named s c e = by (ltb longest-text (length s)) refl (lines s) e
   where
-    by : (t : Bool) → ltb longest-text (length s) ≡ t → (ls : List (List ℕ)) → Ok c ≡ cond t (Err (TooLong {F = TableFault})) (named-by ls)
+    by : (t : Bool) → ltb longest-text (length s) ≡ t → (ls : List (List ℕ)) → _≡_ {A = Result Choice (TextFault TableFault)} (Ok c) (cond t (Err TooLong) (named-by ls))
         → (length s ≤ longest-text) × (0 < length ls)
     by true q ls x = let z : _≡_ {A = ℕ} 0 1 = cc in absurd (omega arith)
     by false q [] x = let z : _≡_ {A = ℕ} 0 1 = cc in absurd (omega arith)
@@ -77,3 +82,31 @@ lines-within s h = let l = lines-few s in omega (arith, h, l)
 
 pub line-enough : (s : List ℕ) → longest-line ≤ most-printed s
 line-enough s = omega arith
+
+-- what holds of one account of the lines holds of another that follows from it
+pub fronts-so : (S T : List (List ℕ) → List ℕ → Type 0) (ls : List (List ℕ)) (s t : List ℕ) (r : Result ℕ NoRoom)
+    → ((done : List (List ℕ)) (out : List ℕ) → S done out → T done out) → Fronts S ls s r t → Fronts T ls s r t
+fronts-so S T ls s t (Ok n) so x = (so ls (take n t) (x .0), x .1)
+fronts-so S T ls s t (Err why) so x = record {
+  done = x .done;
+  rest = x .rest;
+  out = x .out;
+  split = x .split;
+  says = so (x .done) (x .out) (x .says);
+  longer = x .longer;
+}
+
+module _ {P : Type 0} (facts : P → Facts) (after : P → Move → P → Type 0) (strict : Bool) (Starts : P → Type 0) where
+  -- a policy that starts so is one of those that do
+  pub over-fronts : (p : P) (ls : List (List ℕ)) (s t : List ℕ) (r : Result ℕ NoRoom) → Starts p → Fronts (Over facts after strict p) ls s r t
+      → Fronts (From facts after strict Starts) ls s r t
+  over-fronts p ls s t r h =
+      fronts-so (Over facts after strict p) (From facts after strict Starts) ls s t r (λ done out x. record { policy = p; starts = h; over = x })
+
+  -- the same under the eager layer
+  pub eager-fronts : (q : Eager P) (p : P) (ls : List (List ℕ)) (s t : List ℕ) (r : Result ℕ NoRoom) → q .below ≡ p → Starts p
+      → Fronts (Over {P = Eager P} (λ x. fenced (facts (x .below))) (λ x m y. Layer-after facts strict after (x .below) m (y .below)) strict q) ls s r t
+      → Fronts (From-eager facts after strict Starts) ls s r t
+  eager-fronts q p ls s t r e h =
+      fronts-so (Over {P = Eager P} (λ x. fenced (facts (x .below))) (λ x m y. Layer-after facts strict after (x .below) m (y .below)) strict q)
+          (From-eager facts after strict Starts) ls s t r (λ done out x. record { policy = q; starts = subst Starts (sym e) h; over = x })
