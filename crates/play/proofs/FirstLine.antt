@@ -109,4 +109,4 @@ module _ {P : Type 0} (facts : P → Facts) (after : P → Move → P → Type 0
       → Fronts (From-eager facts after strict Starts) ls s r t
   eager-fronts q p ls s t r e h =
       fronts-so (Over {P = Eager P} (λ x. fenced (facts (x .below))) (λ x m y. Layer-after facts strict after (x .below) m (y .below)) strict q)
-          (From-eager facts after strict Starts) ls s t r (λ done out x. record { policy = q; starts = subst Starts (sym e) h; over = x })
+      (From-eager facts after strict Starts) ls s t r (λ done out x. record { policy = q; starts = subst Starts (sym e) h; over = x })

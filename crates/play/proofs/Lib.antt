@@ -3,3 +3,4 @@ mod Lengths
 mod Obeying
 mod Standing
 mod FirstLine
+mod Filling

@@ -128,7 +128,7 @@ module _ {P : Type 0} (facts : P → Facts) (after : P → Move → P → Type 0
     lines = n;
     reached = b;
     plays = (let y : ls ≡ x .done = same ∙ x .split ∙ ap (λ (z : List (List ℕ)). x .done ++ z) e ∙ append-nil (x .done) in
-      subst (λ (z : List (List ℕ)). Plays facts after strict a n z out b) (sym y) (x .plays));
+        subst (λ (z : List (List ℕ)). Plays facts after strict a n z out b) (sym y) (x .plays));
   }
 
   -- the lines that were run and those that are left are all lines

@@ -51,7 +51,7 @@ Clock-after p m q = Stepped m (clock-held p) (clock-held q)
 abbrev pub From-eager : {P : Type 0} → (P → Facts) → (P → Move → P → Type 0) → Bool → (P → Type 0) → List (List ℕ) → List ℕ → Type 0
 From-eager {P} facts after strict Starts =
     From {P = Eager-policy P} (λ p. fenced (facts (p .below))) (λ p m q. Layer-after facts strict after (p .below) m (q .below)) strict
-        (λ p. Starts (p .below))
+    (λ p. Starts (p .below))
 
 -- a new policy: no task has a transaction, and the clock is 0
 abbrev pub New-lock : Lock-policy → Type 0

@@ -31,11 +31,10 @@ returns-in-Break-used g c =
 pub loop-line-holds : need.loop-line-holds
 loop-line-holds g c =
     let h = started (c .args .text .now) (c .new-lines .result .count) (lines-left (c .new-lines .result .rest)) (c .next .result) (c .next .last .self)
-        (c .into-iter-line-iterator .result) (c .new-lines .ensures .all) (c .into-iter-line-iterator .ensures .becomes) (c .pre) (c .next .ensures .steps) in
+    (c .into-iter-line-iterator .result) (c .new-lines .ensures .all) (c .into-iter-line-iterator .ensures .becomes) (c .pre) (c .next .ensures .steps) in
     let n = c .new-table .ensures in
     let p = c .in-Continue-used .ensures tt in
-    let k = c .put-line .kept .room in
-    (
+    let k = c .put-line .kept .room in (
       tt,
       tt,
       standing-first (g .P·Policy .facts) (g .P·Policy .after) (g .P·Policy .strict) (view (c .new-table .result))
@@ -49,7 +48,7 @@ pub returns-in-Break-used-2 : need.returns-in-Break-used-2
 returns-in-Break-used-2 g c =
     let f = g .P·Policy .facts in
     let h = started (c .args .text .now) (c .new-lines .result .count) (lines-left (c .new-lines .result .rest)) (c .next .result) (c .next .last .self)
-        (c .into-iter-line-iterator .result) (c .new-lines .ensures .all) (c .into-iter-line-iterator .ensures .becomes) (c .pre) (c .next .ensures .steps) in
+    (c .into-iter-line-iterator .result) (c .new-lines .ensures .all) (c .into-iter-line-iterator .ensures .becomes) (c .pre) (c .next .ensures .steps) in
     let n = c .new-table .ensures in
     let i = c .loop-line .inv in
     let s = c .in-Some .ensures tt .steps in
@@ -61,8 +60,8 @@ returns-in-Break-used-2 g c =
     let ls = drop 1 (lines (c .args .text .now)) in
     let all = lines-left (c .into-iter-line-iterator .result .rest) in
     let m = lines-counted f (g .P·Policy .after) (g .P·Policy .strict) (view (c .new-table .result)) (view (c .loop-line .table)) all
-        (lines-left (c .loop-line .line-iterator .rest)) (c .loop-line .line-iterator .count) (take (c .loop-line .used) (c .loop-line .room))
-        (c .loop-line .used) (i .2) in
+    (lines-left (c .loop-line .line-iterator .rest)) (c .loop-line .line-iterator .count) (take (c .loop-line .used) (c .loop-line .room))
+    (c .loop-line .used) (i .2) in
     let z = ap length (s .0) in record {
       fronts = fronts-refused (Over f (g .P·Policy .after) (g .P·Policy .strict) (c .args .policy)) ls (c .args .room .now)
           (c .put-line-in-loop-line .last .room) (r .result) (p .0) (p .1)
@@ -81,8 +80,7 @@ loop-line-again g c =
     let s = c .in-Some .ensures tt .steps in
     let p = c .in-Continue-used-2 .ensures tt in
     let k = c .put-line-in-loop-line .kept .room in
-    let o = c .obey-reply .ensures (i .2 .sound) in
-    (
+    let o = c .obey-reply .ensures (i .2 .sound) in (
       tt,
       tt,
       standing-next (g .P·Policy .facts) (g .P·Policy .after) (g .P·Policy .strict) (view (c .new-table .result)) (view (c .loop-line .table))
@@ -97,14 +95,14 @@ pub returns : need.returns
 returns g c =
     let f = g .P·Policy .facts in
     let h = started (c .args .text .now) (c .new-lines .result .count) (lines-left (c .new-lines .result .rest)) (c .next .result) (c .next .last .self)
-        (c .into-iter-line-iterator .result) (c .new-lines .ensures .all) (c .into-iter-line-iterator .ensures .becomes) (c .pre) (c .next .ensures .steps) in
+    (c .into-iter-line-iterator .result) (c .new-lines .ensures .all) (c .into-iter-line-iterator .ensures .becomes) (c .pre) (c .next .ensures .steps) in
     let n = c .new-table .ensures in
     let i = c .loop-line .inv in
     let s = c .in-None .ensures tt .steps in
     let all = lines-left (c .into-iter-line-iterator .result .rest) in
     let m = lines-counted f (g .P·Policy .after) (g .P·Policy .strict) (view (c .new-table .result)) (view (c .loop-line .table)) all
-        (lines-left (c .loop-line .line-iterator .rest)) (c .loop-line .line-iterator .count) (take (c .loop-line .used) (c .loop-line .room))
-        (c .loop-line .used) (i .2) in record {
+    (lines-left (c .loop-line .line-iterator .rest)) (c .loop-line .line-iterator .count) (take (c .loop-line .used) (c .loop-line .room))
+    (c .loop-line .used) (i .2) in record {
       fronts = (
         all-played f (g .P·Policy .after) (g .P·Policy .strict) (c .args .policy) (view (c .new-table .result)) (view (c .loop-line .table)) all
             (lines-left (c .loop-line .line-iterator .rest)) (c .loop-line .line-iterator .count) (take (c .loop-line .used) (c .loop-line .room))
