@@ -1,2 +1,6 @@
 mod Adding
 mod Lengths
+mod Obeying
+mod Standing
+mod FirstLine
+mod Filling

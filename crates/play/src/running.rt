@@ -29,14 +29,10 @@ fn obey<P: Policy>(table: &mut Table<P>, line: Line) -> Reply
     let command = line.command()?;
     match perform(table, command) {
         Ok(outcome) => Ok(outcome),
-        Err(fault) => Err(
-            TextFault::from(
-                RefusedLine {
-                    line: line.number,
-                    fault,
-                },
-            ),
-        ),
+        Err(fault) => Err(TextFault::from(RefusedLine {
+            line: line.number,
+            fault,
+        })),
     }
 }
 

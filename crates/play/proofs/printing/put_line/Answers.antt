@@ -29,7 +29,7 @@ returns-in-Break-used-2 c =
     let k = c .put-number .kept .room in
     let s = number-short (c .args .line) (omega arith) in
     let tail = adds-refused (reply-text (c .args .reply)) (line-feed ∷ []) (c .in-Continue-used .used) (c .put-number .last .room)
-        (c .put-reply .last .room) (c .put-reply .last .room) (r .result) (c .in-Break-used-2 .field-0 .0) (p .0) (p .1) (e .added) in record {
+    (c .put-reply .last .room) (c .put-reply .last .room) (r .result) (c .in-Break-used-2 .field-0 .0) (p .0) (p .1) (e .added) in record {
       added = adds-then (decimal (c .args .line)) (reply-text (c .args .reply) ++ (line-feed ∷ [])) (c .args .used) (c .in-Continue-used .used)
           (c .args .room .now) (c .put-number .last .room) (c .put-reply .last .room) (r .result) k n tail;
       within = within-refused longest-line (c .args .used) (c .args .room .now) (r .result) (p .0) (p .1) (omega (arith, e .within, n .0, s, k));
@@ -44,10 +44,10 @@ returns c =
     let s = number-short (c .args .line) (omega arith) in
     let m : c .in-Continue-used .used ≤ c .args .used + 20 = omega (arith, n .0, s) in
     let tail = adds-then (reply-text (c .args .reply)) (line-feed ∷ []) (c .in-Continue-used .used) (c .in-Continue-used-2 .used)
-        (c .put-number .last .room) (c .put-reply .last .room) (c .put-text .last .room) (c .put-text .result) (c .put-reply .kept .room) (t .added)
-        (c .put-text .ensures) in
+    (c .put-number .last .room) (c .put-reply .last .room) (c .put-text .last .room) (c .put-text .result) (c .put-reply .kept .room) (t .added)
+    (c .put-text .ensures) in
     let w = within 1 (line-feed ∷ []) (c .in-Continue-used-2 .used) (c .put-reply .last .room) (c .put-text .last .room) (c .put-text .result) (omega arith)
-        (c .put-text .ensures) in record {
+    (c .put-text .ensures) in record {
       added = adds-then (decimal (c .args .line)) (reply-text (c .args .reply) ++ (line-feed ∷ [])) (c .args .used) (c .in-Continue-used .used)
           (c .args .room .now) (c .put-number .last .room) (c .put-text .last .room) (c .put-text .result) k n tail;
       within = line-within (c .args .used) (c .in-Continue-used .used) (c .in-Continue-used-2 .used) (c .args .room .now) (c .put-reply .last .room)

@@ -24,9 +24,9 @@ pub returns : need.returns
 returns c =
     let same : toZ w32 (ofZ w32 (c .args .value)) ≡ c .args .value = search needs in
     let v = adds-is (signed (c .args .value)) (signed (toZ w32 (ofZ w32 (c .args .value)))) (c .in-Continue-used .used) (c .put-text .last .room)
-        (c .put-value .last .room) (c .put-value .result) (ap signed (sym same)) (c .put-value .ensures) in
+    (c .put-value .last .room) (c .put-value .result) (ap signed (sym same)) (c .put-value .ensures) in
     let a = adds-then (codes " = ") (signed (c .args .value)) (c .args .used) (c .in-Continue-used .used) (c .args .room .now) (c .put-text .last .room)
-        (c .put-value .last .room) (c .put-value .result) (c .put-text .kept .room) (c .in-Continue-used .ensures tt) v in record {
+    (c .put-value .last .room) (c .put-value .result) (c .put-text .kept .room) (c .in-Continue-used .ensures tt) v in record {
       added = a;
       within = within longest-reply (value-text (c .args .value)) (c .args .used) (c .args .room .now) (c .put-value .last .room) (c .put-value .result) (value-short (c .args .value) (c .fits .value)) a;
     }

@@ -19,7 +19,7 @@ returns-in-Break-used c =
 pub returns : need.returns
 returns c =
     let a = adds-then (codes " no ") (decimal (c .args .number)) (c .args .used) (c .in-Continue-used .used) (c .args .room .now) (c .put-text .last .room)
-        (c .put-number .last .room) (c .put-number .result) (c .put-text .kept .room) (c .in-Continue-used .ensures tt) (c .put-number .ensures) in record {
+    (c .put-number .last .room) (c .put-number .result) (c .put-text .kept .room) (c .in-Continue-used .ensures tt) (c .put-number .ensures) in record {
       added = a;
       within = within longest-reply (refused-text (c .args .number)) (c .args .used) (c .args .room .now) (c .put-number .last .room) (c .put-number .result) (refused-short (c .args .number) (omega arith)) a;
     }

@@ -16,13 +16,13 @@ returns-in-Break-used t c =
     let e = decimal-step (c .args .n) (omega arith) (omega arith) in
     rw (e, p .1)
     (adds-short (decimal (c .args .n / 10)) ((48 + c .args .n % 10) ∷ []) (c .args .used) (c .args .room .now) (c .put-number .last .room)
-        (c .put-number .last .room) (p .0) (c .in-Break-used .ensures tt))
+    (c .put-number .last .room) (p .0) (c .in-Break-used .ensures tt))
 
 pub returns : need.returns
 returns t c =
     let n = c .args .n in
     adds-is (decimal n) (decimal (n / 10) ++ ((48 + n % 10) ∷ [])) (c .args .used) (c .args .room .now) (c .put-byte-2 .last .room)
-        (c .put-byte-2 .result) (decimal-step n (omega arith) (omega arith))
+    (c .put-byte-2 .result) (decimal-step n (omega arith) (omega arith))
     (adds-then (decimal (n / 10)) ((48 + n % 10) ∷ []) (c .args .used) (c .in-Continue-used .used) (c .args .room .now)
-        (c .put-number .last .room) (c .put-byte-2 .last .room) (c .put-byte-2 .result) (c .put-number .kept .room)
-        (c .in-Continue-used .ensures tt) (c .put-byte-2 .ensures))
+    (c .put-number .last .room) (c .put-byte-2 .last .room) (c .put-byte-2 .result) (c .put-number .kept .room)
+    (c .in-Continue-used .ensures tt) (c .put-byte-2 .ensures))

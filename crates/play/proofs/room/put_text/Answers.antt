@@ -12,8 +12,7 @@ loop-byte-again c =
     let i = c .loop-byte .inv in
     let p = c .in-Continue-used .ensures tt in
     let k = c .put-byte .kept .room in
-    let h : c .loop-byte .byte-index < length (c .args .text .now) = omega arith in
-    (
+    let h : c .loop-byte .byte-index < length (c .args .text .now) = omega arith in (
       omega (arith, i .0, p .0),
       omega (arith, p .1, k),
       text-on (take (c .args .used) (c .args .room .now)) (take (c .loop-byte .used) (c .loop-byte .room))
@@ -23,8 +22,7 @@ loop-byte-again c =
 pub returns : need.returns
 returns c =
     let i = c .loop-byte .inv in
-    let e : c .loop-byte .byte-index ≡ length (c .args .text .now) = omega arith in
-    (
+    let e : c .loop-byte .byte-index ≡ length (c .args .text .now) = omega arith in (
       i .0 ∙ ap (λ (n : ℕ). c .args .used + n) e,
       omega (arith, i .1),
       i .2 ∙ ap (λ (x : List ℕ). take (c .args .used) (c .args .room .now) ++ x) (ap (λ (n : ℕ). take n (c .args .text .now)) e ∙ take-all (length (c .args .text .now)) (c .args .text .now) (omega arith)),

@@ -1,0 +1,3 @@
+// Schedules with what they print.
+mod rooms;
+mod schedules;
