@@ -13,8 +13,8 @@ use crate::fault::Place;
 use crate::fault::TableFault;
 use crate::stage::Call;
 use crate::stage::Stage;
-use crate::table::TASKS;
-use crate::table::VARIABLES;
+use policy::TASKS;
+use policy::VARIABLES;
 
 // Whether there is such a task.
 pub(crate) fn check_task(task: u8) -> Result<(), TableFault>

@@ -13,8 +13,8 @@ use crate::checks::check_task;
 use crate::fault::Place;
 use crate::fault::TableFault;
 use crate::table::Table;
-use crate::table::VARIABLES;
 use policy::Policy;
+use policy::VARIABLES;
 
 // How long a list of variables may be.
 pub const LONGEST_LIST: usize = 16;

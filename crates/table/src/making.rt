@@ -8,9 +8,9 @@ ghost use Rattle.table.specs.Views.{view};
 ghost use Rattle.table.specs.Making.{«Aborted-below», «Law-from»};
 use crate::stage::Stage;
 use crate::stage::zeros;
-use crate::table::TASKS;
 use crate::table::Table;
 use policy::Policy;
+use policy::TASKS;
 
 // Aborts every task that the policy has open.
 fn abort_all<P: Policy>(policy: &mut P)

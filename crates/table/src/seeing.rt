@@ -7,8 +7,8 @@ ghost use Rattle.policy.specs.Limits.{tasks, variables};
 ghost use Rattle.table.specs.Views.{sight};
 use crate::stage::zeros;
 use crate::table::Table;
-use crate::table::VARIABLES;
 use policy::Policy;
+use policy::VARIABLES;
 
 impl<P: Policy> Table<P> {
     // The pending value if the task has written the variable, else the shared one.

@@ -6,8 +6,8 @@ ghost use lib.ListN.{getD, length, replicate, set};
 ghost use Rattle.policy.specs.Limits.{tasks, variables};
 ghost use Rattle.table.specs.Checks.{«with-pending», Whole};
 ghost use Rattle.table.specs.Views.{«pending-in»};
-use crate::table::TASKS;
-use crate::table::VARIABLES;
+use policy::TASKS;
+use policy::VARIABLES;
 
 // A task without a transaction, in one with its pending values, or thrown out of one and not yet told to end it.
 #[derive(Clone, Copy)]

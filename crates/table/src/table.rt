@@ -1,11 +1,8 @@
 // What a table holds.
 use crate::stage::Stage;
 use policy::Policy;
-
-// How many tasks and variables there are.
-pub const TASKS: usize = 8;
-
-pub const VARIABLES: usize = 64;
+use policy::TASKS;
+use policy::VARIABLES;
 
 // The shared values, the stage of each task, and the policy that decides about conflicts.
 #[derive(Drop)]
