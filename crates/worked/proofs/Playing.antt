@@ -1,7 +1,6 @@
 -- Runs built from what a policy was asked, call by call, and how it answered.
-use Prim.Native.Nat.{ℕ}
 use mathlib.Core.Path.{_≡_, refl, sym, _∙_, ap, subst}
-use mathlib.Core.Bool.{Bool, true, false, cond, _&&_}
+use mathlib.Core.Bool.{Bool, true, false, cond}
 use mathlib.Core.List.{List, [], _∷_, reverse}
 use Rattle.std.specs.declared.result.Result.{Result}
 use Rattle.std.specs.declared.result.Result.the-variants.{Ok, Err}
@@ -18,11 +17,11 @@ use Rattle.history.specs.Transactions.{History}
 use Rattle.history.specs.Runs.{New, Leads, none-yet, then}
 use Rattle.history.proofs.Logic.{both-true}
 use Rattle.worked.specs.Policies.{Kind, lock, own, clock, eager-clock, Policy-of, stated, Made}
-use Rattle.worked.specs.Lines.{Line, Is}
+use Rattle.worked.specs.Lines.{Line, Is, calls-made, line-calls}
 use Rattle.worked.specs.Rows.{Row, Played}
 use Rattle.worked.proofs.Replays.{picture, plain, moves, replied}
 use Rattle.worked.proofs.PlainSteps.{continued, plain-step}
-use Rattle.worked.proofs.Schedules.{all-plain, new-table, answer-of, is-stated, calls, line-calls}
+use Rattle.worked.proofs.Schedules.{all-plain, new-table, answer-of, is-stated}
 use Rattle.worked.proofs.Policies.{Held, held, meaning, shown, Right-over, runs-over}
 
 -- what a table answers over a policy, by what the policy holds
@@ -123,7 +122,7 @@ record Reached (k : Kind) (ls : List Line) (p : Policy-of k) : Type 0 where
   pub new : New (stated k .facts) start
   pub made : Made k (start .policy)
   pub run : Leads (stated k .facts) (stated k .after) (stated k .strict) start end history
-  pub same : calls history ≡ line-calls ls
+  pub same : calls-made history ≡ line-calls ls
   pub policy : end .policy ≡ p
 
 unplayed : (k : Kind) (p : Policy-of k) → Fresh (stated k .facts p) → Made k p → Reached k [] p
@@ -215,9 +214,6 @@ has-run row e right ms p play =
       start = r .start;
       end = r .end;
       history = r .history;
-      new = r .new;
-      made = r .made;
-      run = r .run;
-      calls = r .same;
+      run = record { new = r .new; made = r .made; run = r .run; calls = r .same };
       policy = r .policy;
     }

@@ -20,17 +20,18 @@ use Rattle.history.specs.Steps.{State}
 use Rattle.history.specs.Transactions.{History}
 use Rattle.history.specs.Runs.{New, Leads}
 use Rattle.worked.specs.Policies.{Kind, lock, own, clock, eager-clock, Policy-of, stated, Made, clock-of}
-use Rattle.worked.specs.Lines.{Line}
+use Rattle.worked.specs.Lines.{Line, calls-made, line-calls}
 use Rattle.worked.proofs.Replays.{picture}
-use Rattle.worked.proofs.Schedules.{all-plain, new-table, after-lines, Right, Replay, calls, line-calls, runs}
+use Rattle.worked.proofs.Schedules.{all-plain, new-table, after-lines, Right, Replay, runs}
 
--- what a policy holds
+-- the type of what a policy holds
 abbrev pub Held : Kind → Type 0
 Held lock = Sets
 Held own = own-state.State
 Held (clock start) = clock-state.Held
 Held (eager-clock start) = clock-state.Held
 
+-- what a policy of this kind holds now
 abbrev pub held : (k : Kind) → Policy-of k → Held k
 held lock p = lock-policy.held p
 held own p = own-policy.state p
@@ -81,7 +82,7 @@ Right-over k ls = Right (meaning k) (after-move k) (stated k .strict) ls (new-ta
 
 -- every run of the calls of some lines over a new policy of this kind
 pub runs-over : (k : Kind) (ls : List Line) → all-plain ls ≡ true → Right-over k ls → (a b : State (Policy-of k)) (h : History) → New (stated k .facts) a
-    → Made k (a .policy) → Leads (stated k .facts) (stated k .after) (stated k .strict) a b h → calls h ≡ line-calls ls
+    → Made k (a .policy) → Leads (stated k .facts) (stated k .after) (stated k .strict) a b h → calls-made h ≡ line-calls ls
     → Replay (meaning k) (after-move k) ls h (new-table (first k)) (picture (held k) b)
 runs-over lock ls e right = runs (held lock) (meaning lock) (after-move lock) (stated lock .after) (stated lock .strict) (λ p q m s. s .sets) (first lock) ls e right
 runs-over own ls e right = runs (held own) (meaning own) (after-move own) (stated own .after) (stated own .strict) (λ p q m s. s .holds) (first own) ls e right

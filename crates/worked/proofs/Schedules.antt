@@ -3,17 +3,17 @@ use Prim.Native.Nat.{ℕ}
 use native.Mathlib.Omega.{arith}
 use mathlib.Core.Path.{_≡_, refl, sym, _∙_, ap, subst, fun-ext}
 use mathlib.Core.Bool.{Bool, true, _&&_}
-use mathlib.Core.List.{List, [], _∷_, map}
+use mathlib.Core.List.{List, [], _∷_}
 use lib.IntN.{pos}
 use Rattle.policy.specs.Facts.{Facts}
 use Rattle.policy.specs.Moves.{Move}
 use Rattle.history.specs.Calls.{Call, Answer, done, value, refused}
 use Rattle.history.specs.Answers.{idle}
 use Rattle.history.specs.Steps.{State, Step}
-use Rattle.history.specs.Transactions.{Entry, History}
+use Rattle.history.specs.Transactions.{History}
 use Rattle.history.specs.Runs.{New, Leads, none-yet, then}
 use Rattle.history.proofs.Logic.{both-true}
-use Rattle.worked.specs.Lines.{Reply, ok, the-value, refusal, Line, Is, Answers-are}
+use Rattle.worked.specs.Lines.{Reply, ok, the-value, refusal, Line, Is, calls-made, line-calls, Answers-are}
 use Rattle.worked.proofs.Replays.{picture, plain, replied, replayed, step-replied, step-replayed}
 
 -- a pair; what is shown of a list is shown of each line `and` of the next ones
@@ -57,13 +57,6 @@ module _ {H : Type 0} (meaning : H → Facts) (next : Move → H → H) where
     pub answers : Answers-are ls h
     pub ends : b ≡ after-lines ls a
 
--- the calls of a history, and of some lines
-abbrev pub calls : History → List Call
-calls h = map (λ (e : Entry). e .call) h
-
-abbrev pub line-calls : List Line → List Call
-line-calls ls = map (λ (l : Line). l .call) ls
-
 module _ {P H : Type 0} (held : P → H) (meaning : H → Facts) (next : Move → H → H) (after : P → Move → P → Type 0) (strict : Bool)
     (follows : (p q : P) (m : Move) → after p m q → held q ≡ next m (held p)) where
   one-more : (x : State H) (c : Call) (r : Answer) (b d : State P) (h : History) (l : Line) (ls : List Line) → Replay meaning next ls h x (picture held b)
@@ -86,7 +79,7 @@ module _ {P H : Type 0} (held : P → H) (meaning : H → Facts) (next : Move �
           step-replayed held meaning next after strict follows c r b d step is-plain
           ∙ (λ i. replayed meaning next (same i) (is-stated (l .reply) r is-right i) (before .ends i))
 
-  replay : (a : State P) {b : State P} {h : History} → Leads (λ p. meaning (held p)) after strict a b h → (ls : List Line) → calls h ≡ line-calls ls
+  replay : (a : State P) {b : State P} {h : History} → Leads (λ p. meaning (held p)) after strict a b h → (ls : List Line) → calls-made h ≡ line-calls ls
       → all-plain ls ≡ true → Right meaning next strict ls (picture held a) → Replay meaning next ls h (picture held a) (picture held b)
   replay a none-yet [] same e right = record { answers = tt; ends = refl }
   replay a none-yet (l ∷ ls) same e right = absurd (let z : _≡_ {A = ℕ} 0 1 = cc in omega arith)
@@ -101,7 +94,7 @@ module _ {P H : Type 0} (held : P → H) (meaning : H → Facts) (next : Move �
 
   -- every run of the calls of some lines, from a new table whose policy holds x
   pub runs : (x : H) (ls : List Line) → all-plain ls ≡ true → Right meaning next strict ls (new-table x) → (a b : State P) (h : History)
-      → New (λ p. meaning (held p)) a → held (a .policy) ≡ x → Leads (λ p. meaning (held p)) after strict a b h → calls h ≡ line-calls ls
+      → New (λ p. meaning (held p)) a → held (a .policy) ≡ x → Leads (λ p. meaning (held p)) after strict a b h → calls-made h ≡ line-calls ls
       → Replay meaning next ls h (new-table x) (picture held b)
   runs x ls e right a b h new holds run same =
       let s : picture held a ≡ new-table x = starts a x new holds in

@@ -1,8 +1,7 @@
 -- The ten rows: each reply is what its call computes to.
-use Prim.Native.Nat.{ℕ}
 use mathlib.Core.Path.{_≡_, refl, ap, _∙_}
 use mathlib.Core.Bool.{true}
-use mathlib.Core.List.{List, reverse}
+use mathlib.Core.List.{reverse}
 use mathlib.Core.Option.{some}
 use Rattle.policy.specs.Facts.{some-below}
 use Rattle.clock.specs.Different.{among, different, different-below}
@@ -35,8 +34,8 @@ leaves k (variable-is v n) b x e h = ap (λ (s : State (Held k)). s .shared v) e
 leaves k (clock-is n) b x e h = clock-held k (b .policy) ∙ ap (λ (s : State (Held k)). clock-in k (s .policy)) e ∙ h
 
 holds : (row : Row) → Worked-out row → Holds row
-holds row w a b h new made run same =
-    let r = runs-over (row .over) (reverse (row .lines)) (w .plain) (w .right) a b h new made run same in
+holds row w a b h run =
+    let r = runs-over (row .over) (reverse (row .lines)) (w .plain) (w .right) a b h (run .new) (run .made) (run .run) (run .calls) in
     (r .answers, leaves (row .over) (row .left) b (shown (row .over) (reverse (row .lines))) (r .ends) (w .left))
 
 -- a policy that was asked about the row's calls is left by a run of them

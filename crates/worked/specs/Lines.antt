@@ -1,7 +1,7 @@
 -- The lines of a worked schedule, and when the answers of a run are theirs.
 use Prim.Native.Nat.{ℕ}
 use mathlib.Core.Path.{_≡_}
-use mathlib.Core.List.{List, [], _∷_}
+use mathlib.Core.List.{List, [], _∷_, map}
 use lib.IntN.{ℤ}
 use Rattle.history.specs.Calls.{Call, Refusal, number, Answer, done, value, refused}
 use Rattle.history.specs.Transactions.{Entry, History}
@@ -26,6 +26,14 @@ abbrev pub Is : Reply → Answer → Type 0
 Is ok r = r ≡ done
 Is (the-value x) r = r ≡ value x
 Is (refusal n why) r = (r ≡ refused why) × (number why ≡ n)
+
+-- the calls of a history
+abbrev pub calls-made : History → List Call
+calls-made h = map (λ (e : Entry). e .call) h
+
+-- the calls of some lines
+abbrev pub line-calls : List Line → List Call
+line-calls ls = map (λ (l : Line). l .call) ls
 
 -- the answers of a history are those of the lines, one by one
 abbrev pub Answers-are : List Line → History → Type 0

@@ -1,15 +1,15 @@
 -- Ten schedules worked out: the policy, the calls in their order with their answers, and what is left at the end.
 use Prim.Native.Nat.{ℕ}
 use mathlib.Core.Path.{_≡_}
-use mathlib.Core.List.{List, [], _∷_, map, reverse}
+use mathlib.Core.List.{List, [], _∷_, reverse}
 use mathlib.Core.Option.{some}
 use lib.IntN.{ℤ, pos}
 use Rattle.history.specs.Calls.{begin, read, write, commit, single, is-broken, read-barred, write-barred, commit-barred, at-wrong-time, by-policy}
 use Rattle.history.specs.Steps.{State}
-use Rattle.history.specs.Transactions.{Entry, History}
+use Rattle.history.specs.Transactions.{History}
 use Rattle.history.specs.Runs.{New, Leads}
 use Rattle.worked.specs.Policies.{Kind, lock, own, clock, eager-clock, Policy-of, stated, Made, clock-of}
-use Rattle.worked.specs.Lines.{Line, ok, the-value, refusal, _gives_, Answers-are}
+use Rattle.worked.specs.Lines.{Line, ok, the-value, refusal, _gives_, calls-made, line-calls, Answers-are}
 
 -- what a row says of the end besides the answers: nothing, the value of a variable, or the clock
 pub data Left : Type 0 where
@@ -177,32 +177,32 @@ Leaves k nothing-more b = Unit {0}
 Leaves k (variable-is v x) b = b .shared v ≡ x
 Leaves k (clock-is n) b = clock-of k (b .policy) ≡ some n
 
--- every run of exactly these calls, from a new table over a new policy, has these answers and leaves what the row says;
--- a history has its newest call first
+-- h is a run of exactly the row's calls, from a new table over a new policy; a history has its newest call first
+pub record Run-of (row : Row) (a b : State (Policy-of (row .over))) (h : History) : Type 0 where
+  pub new : New (stated (row .over) .facts) a
+  pub made : Made (row .over) (a .policy)
+  pub run : Leads (stated (row .over) .facts) (stated (row .over) .after) (stated (row .over) .strict) a b h
+  pub calls : calls-made h ≡ line-calls (reverse (row .lines))
+
+-- every run of the row has its answers and leaves what it says
 abbrev pub Holds : Row → Type 0
 Holds row =
-    (a b : State (Policy-of (row .over))) (h : History) → New (stated (row .over) .facts) a → Made (row .over) (a .policy)
-    → Leads (stated (row .over) .facts) (stated (row .over) .after) (stated (row .over) .strict) a b h
-    → map (λ (e : Entry). e .call) h ≡ map (λ (l : Line). l .call) (reverse (row .lines))
-    → Answers-are (reverse (row .lines)) h × Leaves (row .over) (row .left) b
+    (a b : State (Policy-of (row .over))) (h : History) → Run-of row a b h → Answers-are (reverse (row .lines)) h × Leaves (row .over) (row .left) b
 
 -- each of some rows holds
 abbrev pub All-hold : List Row → Type 0
 All-hold [] = Unit {0}
 All-hold (row ∷ more) = Holds row × All-hold more
 
--- such a run that leaves its policy at p
+-- there is a run of the row that leaves its policy at p
 pub record Played (row : Row) (p : Policy-of (row .over)) : Type 0 where
   pub start : State (Policy-of (row .over))
   pub end : State (Policy-of (row .over))
   pub history : History
-  pub new : New (stated (row .over) .facts) start
-  pub made : Made (row .over) (start .policy)
-  pub run : Leads (stated (row .over) .facts) (stated (row .over) .after) (stated (row .over) .strict) start end history
-  pub calls : map (λ (e : Entry). e .call) history ≡ map (λ (l : Line). l .call) (reverse (row .lines))
+  pub run : Run-of row start end history
   pub policy : end .policy ≡ p
 
--- each of some rows has such a run
+-- each of some rows has a run
 abbrev pub All-played : List Row → Type 0
 All-played [] = Unit {0}
 All-played (row ∷ more) = ((p : Policy-of (row .over)) × Played row p) × All-played more
