@@ -2,6 +2,7 @@
 use play::outcome::NoRoom;
 use play::outcome::NoRoomDebug;
 use play::outcome::NoRoomPartialEq;
+use play::outcome::RunFaultDebug;
 use play::texts::room_for;
 use play::texts::run;
 use play::texts::run_into;

@@ -1,4 +1,5 @@
 // Whole texts, one conflict under each policy, and texts that are refused.
+use play::outcome::RunFaultDebug;
 use play::texts::run;
 use std::alloc::Global;
 use std::test::*;
