@@ -24,8 +24,8 @@ use Rattle.own.specs.After.{state as ownership, facts as own-facts, After as Ow
 use Rattle.clock.specs.declared.state.Clock.{Clock as Clock-policy}
 use Rattle.clock.specs.Held.{meaning}
 use Rattle.clock.specs.Steps.{new-policy}
-use Rattle.clock.specs.Due.{Stepped}
 use Rattle.clock.specs.Clocks.{held as clock-held}
+use Rattle.clock.specs.After.{After as Clock-after}
 use Rattle.eager.specs.declared.Eager.{Eager as Eager-policy}
 use Rattle.eager.specs.Layer.{fenced, After as Layer-after}
 use Rattle.table.specs.Faults.{numbered}
@@ -43,9 +43,6 @@ pub record From {P : Type 0} (facts : P → Facts) (after : P → Move → P →
 
 abbrev pub clock-facts : Clock-policy → Facts
 clock-facts p = meaning (clock-held p)
-
-abbrev pub Clock-after : Clock-policy → Move → Clock-policy → Type 0
-Clock-after p m q = Stepped m (clock-held p) (clock-held q)
 
 -- the same under the eager layer
 abbrev pub From-eager : {P : Type 0} → (P → Facts) → (P → Move → P → Type 0) → Bool → (P → Type 0) → List (List ℕ) → List ℕ → Type 0
