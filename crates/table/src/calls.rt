@@ -2,6 +2,7 @@
 ghost use Rattle.history.specs.Calls.{begin as begins, read as reads, write as writes, commit as commits, abort as aborts};
 ghost use Rattle.table.specs.Views.{Performs, «done-or», «value-or»};
 use crate::answer::Reading;
+use crate::asking::ask_read;
 use crate::checks::check_access_call;
 use crate::checks::check_call;
 use crate::fault::FromPolicyFault;
@@ -32,7 +33,7 @@ impl<P: Policy> Table<P> {
     {
         check_access_call(&mut self.stages, task, variable)?;
         let value = self.look(task, variable);
-        match self.policy.read(task, variable) {
+        match ask_read(&mut self.policy, task, variable) {
             Ok(_) => Ok(Reading { value }),
             Err(fault) => {
                 break_task(&mut self.stages, task);

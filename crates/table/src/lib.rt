@@ -1,6 +1,7 @@
 // Transactions over 64 shared variables for 8 tasks, under any policy.
 pub mod answer;
 pub mod apart;
+mod asking;
 pub mod calls;
 pub mod checks;
 pub mod collect;

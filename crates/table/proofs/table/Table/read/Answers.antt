@@ -27,12 +27,12 @@ returns-in-Ok g c sound =
     let seen : c .look-value .result ≡ sight (g .P·Policy .facts) (c .args .self .now) (c .args .task) (c .args .variable) = rw (← c .check-access-call .ensures .same) (c .look-value .ensures) in
     stepped (g .P·Policy .facts) (g .P·Policy .after) (g .P·Policy .strict) (g .P·Policy·met .keeps) (g .P·Policy·met .proper) (read (c .args .task) (c .args .variable)) _ _ _ sound
     (rw (c .check-access-call .ensures .same, toZ-ofZ fits) (read-granted (g .P·Policy .facts) (g .P·Policy .after) (g .P·Policy .strict) (c .args .task) (c .args .variable)
-    (c .args .self .now .policy) (c .read .last .self) (c .args .self .now .stages) (c .args .self .now .shared) (c .check-access-call .ensures .all) sound tt
+    (c .args .self .now .policy) (c .ask-read .last .policy) (c .args .self .now .stages) (c .args .self .now .shared) (c .check-access-call .ensures .all) sound tt
     (c .in-Continue-check-access-call .ensures tt .answer) (c .look-value .result) (c .in-Ok .field-0) seen (c .in-Ok .ensures tt .answer) (c .in-Ok .ensures tt .moved)))
 
 pub returns-in-Err : need.returns-in-Err
 returns-in-Err g c sound =
     stepped (g .P·Policy .facts) (g .P·Policy .after) (g .P·Policy .strict) (g .P·Policy·met .keeps) (g .P·Policy·met .proper) (read (c .args .task) (c .args .variable)) _ _ _ sound
     (rw (c .break-task .ensures, c .check-access-call .ensures .same, c .from .ensures) (read-refused-by (g .P·Policy .facts) (g .P·Policy .after) (g .P·Policy .strict) (c .args .task) (c .args .variable)
-    (c .args .self .now .policy) (c .read .last .self) (c .args .self .now .stages) (c .args .self .now .shared) (c .check-access-call .ensures .all) sound tt
+    (c .args .self .now .policy) (c .ask-read .last .policy) (c .args .self .now .stages) (c .args .self .now .shared) (c .check-access-call .ensures .all) sound tt
     (c .in-Continue-check-access-call .ensures tt .answer) (c .in-Err .fault) (c .in-Err .ensures tt .answer) (c .in-Err .ensures tt .moved)))
