@@ -53,16 +53,26 @@ def declared(root):
     return found
 
 
+def crates(root):
+    return {name for name in os.listdir(os.path.join(root, "crates"))}
+
+
 def respelled(root):
     every = set()
-    goals = set()
+    made = set()
+    own = crates(root)
     for path in files(root, (".antt", ".rt")):
         text = read(path)
         every.update(TOKEN.findall(text))
-        goals.update(re.findall(r"\bgoal\.([\w'-]+)", text))
+        made.update(re.findall(r"\bgoal\.([\w'-]+)", text))
+        for module, items in re.findall(r"\buse ([\w.+'-]+)\.\{([^}]*)\}", text):
+            parts = module.split(".")
+            if not (parts[0] == "Rattle" and parts[1] in own) or parts[-1] == "Goals":
+                made.update(re.sub(r"\bas [^,]*", "", items).replace(",", " ").split())
+    known = declared(root)
     names = {}
-    for name in sorted(declared(root)):
-        if not NAME.fullmatch(name) or name in KEPT or name in goals or MADE.search(name):
+    for name in sorted(known | {n for n in every if new_name(n) in known}):
+        if not NAME.fullmatch(name) or name in KEPT or name in made or MADE.search(name):
             continue
         names[name] = new_name(name)
     together = {}

@@ -1,7 +1,7 @@
 -- Arrays that were renumbered or stamped hold what the steps say.
 use Rattle.std.proofs.Common.{◌≡◌, ℕ, ◌+◌, ◌≤◌, Bool, false, cond, ltb, List, map, length, get_or, None, Option, sym, refl, ap, ◌∙◌, arith}
 use Rattle.std.proofs.lemmas.List.{get_or-map}
-use Rattle.std.proofs.lemmas.Bool.{cond_both, cond-false, le_ltb}
+use Rattle.std.proofs.lemmas.Bool.{cond_both, cond-false, le-ltb}
 use Rattle.policy.specs.Limits.{tasks, variables}
 use Rattle.clock.specs.declared.transaction.Transaction.{Transaction}
 use Rattle.clock.specs.Different.{different_below}
@@ -18,10 +18,10 @@ abbrev pub holding : ℕ → List ℕ → List (Option Transaction) → Held
 holding clock ns ts = record { clock = clock; version = numbers ns; transaction = rows ts }
 
 number_past : (ns : List ℕ) (v : ℕ) → variables ≤ v → numbers ns v ≡ 0
-number_past ns v h = cond-false (ltb v variables) (get_or ns v 0) 0 (le_ltb v variables h)
+number_past ns v h = cond-false (ltb v variables) (get_or ns v 0) 0 (le-ltb v variables h)
 
 row_past : (ts : List (Option Transaction)) (t : ℕ) → tasks ≤ t → rows ts t ≡ None
-row_past ts t h = cond-false (ltb t tasks) (row (get_or ts t None)) None (le_ltb t tasks h)
+row_past ts t h = cond-false (ltb t tasks) (row (get_or ts t None)) None (le-ltb t tasks h)
 
 -- what is sound makes a policy
 pub policy_from : (clock : ℕ) (ns : List ℕ) (ts : List (Option Transaction)) → length ns ≡ variables → length ts ≡ tasks

@@ -1,7 +1,7 @@
 -- Each call keeps the rules of the interface.
 use Rattle.std.specs.Prelude.{◌≡◌, ℕ, ◌<◌, Bool, true, false, not, ◌&&◌, is_some, Some, None, Option, ◌≢◌, nat_lt, refl}
 use Rattle.std.proofs.Common.{inl, inr, arith}
-use Rattle.std.proofs.lemmas.Bool.{both_ways, and_parts, ltb-true, not_true, cases_lt}
+use Rattle.std.proofs.lemmas.Bool.{both_ways, and_parts, ltb-true, not-true, cases_lt}
 use Rattle.policy.specs.Limits.{tasks, variables}
 use Rattle.policy.specs.Facts.{Proper, some_below, may_read, may_write, may_commit}
 use Rattle.policy.specs.Moves.{Move, Keeps, begin, read, write, read_refused, write_refused, commit, commit_refused, abort}
@@ -85,7 +85,7 @@ pub keeps : (m : Move) (s : Held) → Sound s → due false m (meaning s) ≡ tr
     → Keeps false m (meaning s) (meaning (next m s))
 keeps (begin t) s sound d =
     begins t s sound
-    (not_true (is_some (s.transaction t)) (and_parts (nat_lt t tasks) (not (is_some (s.transaction t))) d).1)
+    (not-true (is_some (s.transaction t)) (and_parts (nat_lt t tasks) (not (is_some (s.transaction t))) d).1)
 keeps (read t v) s sound d =
     let may : Bool = may_read (meaning s) t v in
     has_read t v s (there s t v may d) (running s t v may d) (said s t v may d)
@@ -93,13 +93,13 @@ keeps (write t v) s sound d =
     let may : Bool = may_write (meaning s) t v in has_written t v s (there s t v may d) (running s t v may d)
 keeps (read_refused t v) s sound d =
     let may : Bool = may_read (meaning s) t v in
-    record { barred = not_true may (said s t v (not may) d); ended = ended t s (running s t v (not may) d) }
+    record { barred = not-true may (said s t v (not may) d); ended = ended t s (running s t v (not may) d) }
 keeps (write_refused t v) s sound d =
     let may : Bool = may_write (meaning s) t v in
-    record { barred = not_true may (said s t v (not may) d); ended = ended t s (running s t v (not may) d) }
+    record { barred = not-true may (said s t v (not may) d); ended = ended t s (running s t v (not may) d) }
 keeps (commit t) s sound d =
     let may : Bool = may_commit false (meaning s) t in committed t s sound (ending s t may d) (decided s t may d)
 keeps (commit_refused t) s sound d =
     let may : Bool = may_commit false (meaning s) t in
-    record { barred = not_true may (decided s t (not may) d); ended = ended t s (ending s t (not may) d) }
+    record { barred = not-true may (decided s t (not may) d); ended = ended t s (ending s t (not may) d) }
 keeps (abort t) s sound d = ended t s (and_parts (nat_lt t tasks) (is_some (s.transaction t)) d).1

@@ -1,7 +1,7 @@
 -- What holds of every clock policy.
 use Rattle.std.specs.Prelude.{◌≡◌, ℕ, ◌+◌, ◌≤◌, false, Some, None, Option, refl}
 use Rattle.std.proofs.Common.{inl, inr, arith}
-use Rattle.std.proofs.lemmas.Bool.{cases_Bool, ltb-false, le_ltb}
+use Rattle.std.proofs.lemmas.Bool.{cases_Bool, ltb-false, le-ltb}
 use Rattle.policy.specs.Limits.{variables}
 use Rattle.varset.specs.Members.{member}
 use Rattle.varset.specs.declared.VarSet.{VarSet}
@@ -22,7 +22,7 @@ pub begun_later : (clock : ℕ) (o : Option Transaction) → begun_after clock o
 begun_later clock None e = refl
 begun_later clock (Some x) e =
     let h : x.read_version ≤ clock = ltb-false clock x.read_version e in
-    le_ltb (clock + 1) x.read_version (omega arith)
+    le-ltb (clock + 1) x.read_version (omega arith)
 
 -- a set of variables has no member that isn't one
 pub member_outside : (s : VarSet) (v : ℕ) → variables ≤ v → member s v ≡ false

@@ -1,7 +1,7 @@
 -- A change of one task's transaction alone: the rules of begin, read, write and of an end with nothing shared.
 use Rattle.std.specs.Prelude.{◌≡◌, ℕ, true, false, ◌&&◌, ◌≢◌, is_some, Some, None, Option, ◌==◌, nat_lt, refl}
 use Rattle.std.proofs.Common.{sym, ap, ◌∙◌}
-use Rattle.std.proofs.lemmas.Bool.{both_ways, eq-eqb, ne_eqb, cond-true, cond-false, le_ltb}
+use Rattle.std.proofs.lemmas.Bool.{both_ways, eq-eqb, ne_eqb, cond-true, cond-false, le-ltb}
 use Rattle.policy.specs.Limits.{variables}
 use Rattle.policy.specs.Facts.{some_below}
 use Rattle.policy.specs.Moves.{Only, Unchanged, Begun, Beside, Ended}
@@ -88,7 +88,7 @@ begins t s sound a =
       no_read =
           λ v b.
           absurd
-          (both_ways (nat_lt s.clock (s.version v)) (le_ltb s.clock (s.version v) (sound.versions v))
+          (both_ways (nat_lt s.clock (s.version v)) (le-ltb s.clock (s.version v) (sound.versions v))
           (sym (ap (λ (o : Option Running). newer o (s.version v)) e) ∙ b));
       no_write = λ v b. absurd (both_ways false refl b);
       only = put_only t x s;

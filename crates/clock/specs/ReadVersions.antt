@@ -1,6 +1,6 @@
 -- The list of the read versions, for any number of tasks.
 use Rattle.std.specs.Prelude.{◌≡◌, ℕ, zero, suc, ◌+◌, ◌<◌, ◌≤◌, true, List, [], ◌∷◌, length, Some, None, Option, ◌==◌, ◌≢◌, nat_lt, slice_index_or, refl}
-use Rattle.std.proofs.Common.{sym, subst, ap, ◌∙◌, inl, inr, arith, add_one}
+use Rattle.std.proofs.Common.{sym, subst, ap, ◌∙◌, inl, inr, arith, add-one}
 use Rattle.std.proofs.lemmas.Bool.{cases_eq, or_cases, eqb-true, or_left, or_right, eq-eqb, cond-true, lt-ltb}
 use Rattle.policy.specs.Limits.{tasks}
 use Rattle.clock.specs.declared.transaction.Transaction.{Transaction}
@@ -82,7 +82,7 @@ read_versions_below (suc n) ts b h a e =
 pub read_versions_next : (ts : List (Option Transaction)) (t : ℕ) → t < tasks
     → read_versions (t + 1) (rows ts) ≡ and_read_version (row (slice_index_or ts t None)) (read_versions t (rows ts))
 read_versions_next ts t h =
-    rw add_one (rw read_versions_more (ap (λ (o : Option Running). and_read_version o (read_versions t (rows ts))) (row_at ts t h)))
+    rw add-one (rw read_versions_more (ap (λ (o : Option Running). and_read_version o (read_versions t (rows ts))) (row_at ts t h)))
 
 -- what one more task of an array adds, by its row
 module _ (ts : List (Option Transaction)) (t : ℕ) (there : t < tasks) where

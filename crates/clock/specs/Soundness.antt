@@ -2,7 +2,7 @@
 use Rattle.std.specs.Prelude.{◌≡◌, ℕ, ◌<◌, ◌≤◌, true, false, List, length, get_or, is_some, Some, None, Option, nat_lt, slice_index, slice_index_or, refl}
 use Rattle.std.proofs.Common.{ap, subst, ◌∙◌, inl, inr, arith}
 use Rattle.std.proofs.lemmas.List.{get_or_past}
-use Rattle.std.proofs.lemmas.Bool.{both_ways, false≢true, cases_lt, cond_both, cond-true, cond-false, ltb-true, ltb-false, lt-ltb, le_ltb}
+use Rattle.std.proofs.lemmas.Bool.{both_ways, false≢true, cases_lt, cond_both, cond-true, cond-false, ltb-true, ltb-false, lt-ltb, le-ltb}
 use Rattle.policy.specs.Limits.{tasks, variables}
 use Rattle.varset.proofs.Below.{member_below}
 use Rattle.clock.specs.declared.transaction.Transaction.{Transaction}
@@ -52,7 +52,7 @@ sound_arrays clock ns ts written begun =
           (λ h e. row_le clock (slice_index_or ts t None) x (begun t) e);
       task =
           λ t. rows_at ts t (λ (o : Option Running). is_some o ≡ true → t < tasks) (λ e. absurd (both_ways false refl e)) (λ h e. h);
-      unwritten = λ v h. cond-false (nat_lt v variables) (slice_index ns v) 0 (le_ltb v variables h);
+      unwritten = λ v h. cond-false (nat_lt v variables) (slice_index ns v) 0 (le-ltb v variables h);
       read_below =
           λ t v.
           rows_at ts t (λ (o : Option Running). reads_of o v ≡ true → v < variables) (λ e. absurd (both_ways false refl e))
@@ -69,14 +69,14 @@ pub written_from : (clock : ℕ) (ns : List ℕ) → length ns ≡ variables →
 written_from clock ns wide h v =
     elim (cases_lt v variables) [
       | inl l ↦
-          le_ltb clock (slice_index ns v)
+          le-ltb clock (slice_index ns v)
           (subst (λ (n : ℕ). n ≤ clock) (cond-true (nat_lt v variables) (slice_index ns v) 0 (lt-ltb v variables l)) (h v))
-      | inr l ↦ le_ltb clock (slice_index ns v) (let e : get_or ns v 0 ≡ 0 = get_or_past ns v 0 (omega arith) in omega arith)
+      | inr l ↦ le-ltb clock (slice_index ns v) (let e : get_or ns v 0 ≡ 0 = get_or_past ns v 0 (omega arith) in omega arith)
     ]
 
 begun_row : (clock : ℕ) (o : Option Transaction) → ((x : Running) → row o ≡ Some x → x.read_version ≤ clock) → begun_after clock o ≡ false
 begun_row clock None h = refl
-begun_row clock (Some x) h = le_ltb clock x.read_version (h (running x) refl)
+begun_row clock (Some x) h = le-ltb clock x.read_version (h (running x) refl)
 
 -- and of its transactions
 pub begun_from : (clock : ℕ) (ts : List (Option Transaction)) → length ts ≡ tasks

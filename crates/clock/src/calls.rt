@@ -23,9 +23,9 @@ impl Policy for Clock {
 
     ghost behind = { λ p. (meaning (held p)).behind };
 
-    ghost no_read = { λ p. (meaning (held p)).no-read };
+    ghost no_read = { λ p. (meaning (held p)).no_read };
 
-    ghost no_write = { λ p. (meaning (held p)).no-write };
+    ghost no_write = { λ p. (meaning (held p)).no_write };
 
     ghost facts = { λ p. meaning (held p) };
 

@@ -1,7 +1,7 @@
 -- The layer keeps the rules if the policy below does, move by move: f and g are the facts below, before and after.
 use Rattle.std.specs.Prelude.{◌≡◌, ℕ, ◌<◌, Bool, true, false, cond, not, ◌&&◌, ◌||◌, ◌≢◌, ◌⊎◌, nat_lt}
 use Rattle.std.proofs.Common.{sym, subst, inl, inr, arith}
-use Rattle.std.proofs.lemmas.Bool.{lt-ltb, ltb-true, and_parts, not_true}
+use Rattle.std.proofs.lemmas.Bool.{lt-ltb, ltb-true, and_parts, not-true}
 use Rattle.policy.specs.Limits.{variables}
 use Rattle.policy.specs.Facts.{Facts, Proper, Touched}
 use Rattle.policy.specs.Moves.{Move, begin, read, write, read_refused, write_refused, commit, commit_refused, abort}
@@ -149,11 +149,11 @@ keeps strict (begin t) f g p e k = begun t f g k
 keeps strict (read t v) f g p e k = has_read strict t v f g e k
 keeps strict (write t v) f g p e k = has_written strict t v f g e k
 keeps strict (read_refused t v) f g p e k = record {
-  barred = not_true _ (and_parts _ _ e).1;
+  barred = not-true _ (and_parts _ _ e).1;
   ended = ended t f g (either_ended strict (f.behind t) (read_refused t v) t f g (λ r. r.ended) k);
 }
 keeps strict (write_refused t v) f g p e k = record {
-  barred = not_true _ (and_parts _ _ e).1;
+  barred = not-true _ (and_parts _ _ e).1;
   ended = ended t f g (either_ended strict (f.behind t) (write_refused t v) t f g (λ r. r.ended) k);
 }
 keeps strict (commit t) f g p e k = committed strict t f g p k

@@ -7,7 +7,7 @@ use Rattle.policy.specs.Facts.{Facts}
 use Rattle.policy.specs.Moves.{Move, Only, Others, Beside, HasRead, Keeps}
 use Rattle.policy.specs.Moves.{read as reads-variable}
 use Rattle.history.specs.Steps.{ReadsFor, none_made, made, left_out, Chain}
-use Rattle.history.proofs.Logic.{truth, either_true, not_true}
+use Rattle.history.proofs.Logic.{truth, either_true, not-true}
 
 -- another active task u, after granted accesses to vs
 pub record BesideAll (vs : List ℕ) (f g : Facts) (u : ℕ) : Type 0 where
@@ -110,7 +110,7 @@ read_one {t} {v} {f} {g} p = record {
     the_one w (Memᴰ.tail m) = elim m [ ]
 
     may : (f.writes t v ≡ true) ⊎ (f.no_read t v ≡ false)
-    may = elim (either_true (f.writes t v) (not (f.no_read t v)) p.granted) [ inl e ↦ inl e | inr e ↦ inr (not_true (f.no_read t v) e) ]
+    may = elim (either_true (f.writes t v) (not (f.no_read t v)) p.granted) [ inl e ↦ inl e | inr e ↦ inr (not-true (f.no_read t v) e) ]
 
     kept : (w : ℕ) → f.reads t w ≡ true → Dec (w ≡ v) → (f.writes t v ≡ true) ⊎ (f.writes t v ≡ false) → g.reads t w ≡ true
     kept w e (no q) d = p.reads w q ∙ e

@@ -16,11 +16,11 @@ abbrev pub longest_list : ℕ
 longest_list = 16
 
 -- the first of two faults, if there is one
-abbrev pub ◌or-else◌ : Option Wrong → Option Wrong → Option Wrong
+abbrev pub ◌or_else◌ : Option Wrong → Option Wrong → Option Wrong
 none or_else next = next
 some why or_else next = some why
 
-infixr 30 ◌or-else◌
+infixr 30 ◌or_else◌
 -- the fault, where the test fails
 abbrev pub unless : Bool → Wrong → Option Wrong
 unless true why = none

@@ -1,7 +1,7 @@
 -- Digits put from the last to the first.
 use Rattle.std.proofs.Common.{◌≡◌, ℕ, zero, suc, ◌+◌, ◌-◌, ◌/◌, ◌%◌, ◌^◌, ◌<◌, ◌≤◌, List, [], ◌∷◌, ◌++◌, length, take, drop, set, decimal, sym, refl, ap, ◌∙◌, append_assoc, arith, length-append, take-append-drop}
 use Rattle.std.proofs.lemmas.Fmt.{decimal_digit, decimal_step, decimal_nonempty}
-use Rattle.std.proofs.lemmas.List.{take_set_le, take-take}
+use Rattle.std.proofs.lemmas.List.{take-set-le, take-take}
 
 -- a number from 10 on has one digit more than without its last one
 pub one_digit_more : (n : ℕ) → 10 ≤ n → n < 2 ^ 64 → length (decimal n) ≡ length (decimal (n / 10)) + 1
@@ -36,7 +36,7 @@ digit_first n m i e k b s t h d ik ie es x y =
     let u = take e (set s k b) in
     let p = put_before s k e b (omega arith) es ∙ ap (λ (z : ℕ). b ∷ drop z (take e s)) (sym ik) in
     let q : decimal n ≡ b ∷ drop i (take e s) = x ∙ ap (λ (z : List ℕ). z ++ drop i (take e s)) (decimal_digit m h ∙ ap (λ (c : ℕ). c ∷ []) (sym d)) in
-    let f : take k u ≡ take k t = take-take k e (set s k b) (omega arith) ∙ take_set_le k s k b (omega arith) ∙ y in
+    let f : take k u ≡ take k t = take-take k e (set s k b) (omega arith) ∙ take-set-le k s k b (omega arith) ∙ y in
     ap (λ (z : ℕ). take e (set s z b)) j ∙ sym (take-append-drop k u) ∙ ap (λ (z : List ℕ). z ++ drop k u) f
     ∙ ap (λ (z : List ℕ). take k t ++ z) (p ∙ sym q)
 

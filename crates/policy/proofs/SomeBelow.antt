@@ -1,7 +1,7 @@
 -- What `some_below` tells of a set, for any bound.
-use Rattle.std.proofs.Common.{◌≡◌, ℕ, zero, suc, ◌+◌, ◌<◌, Bool, true, false, ◌||◌, ◌⊎◌, Decides, refl, inl, inr, add_one, arith}
+use Rattle.std.proofs.Common.{◌≡◌, ℕ, zero, suc, ◌+◌, ◌<◌, Bool, true, false, ◌||◌, ◌⊎◌, Decides, refl, inl, inr, add-one, arith}
 use Rattle.std.proofs.lemmas.Bool.{cases_Bool, both_ways, or_from}
-use Rattle.std.proofs.lemmas.Bool.Decides.{DecidesBelow_or}
+use Rattle.std.proofs.lemmas.Bool.Decides.{Decides-below_or}
 use Rattle.policy.specs.Facts.{some_below}
 
 -- one more place
@@ -18,7 +18,7 @@ some_below_none s = refl
 decides : (n : ℕ) (s : ℕ → Bool) → Decides (some_below n s) ((v : ℕ) × (v < n) × (s v ≡ true))
 unfolding some_below
 decides n s =
-    DecidesBelow_or s (λ v. s v ≡ true) (λ m. some_below m s) (λ v. ((λ e. e), (λ e. e))) refl (λ m. refl) n
+    Decides-below_or s (λ v. s v ≡ true) (λ m. some_below m s) (λ v. ((λ e. e), (λ e. e))) refl (λ m. refl) n
 
 -- a set with a member below n has one that can be named
 pub some_below_witness : (n : ℕ) (s : ℕ → Bool) → some_below n s ≡ true → (v : ℕ) × (v < n) × (s v ≡ true)
@@ -66,4 +66,4 @@ some_below_same (suc n) s t a =
 -- the step of a loop that has met no member yet
 pub some_below_step : (n : ℕ) (s : ℕ → Bool) → some_below n s ≡ false → s n ≡ false → some_below (n + 1) s ≡ false
 unfolding some_below
-some_below_step n s e f = rw add_one (or_from (s n) (some_below n s) f e)
+some_below_step n s e f = rw add-one (or_from (s n) (some_below n s) f e)

@@ -76,7 +76,7 @@ pub trait Policy {
     fn has_written(&self, task: u8, variable: u8) -> Result<bool, PolicyFault>
         ensures { result ≡ wrote_answer (facts self.now) task variable };
 
-    ghost tied: { (p : Self) → facts p ≡ record { active = active p; reads = reads p; writes = writes p; behind = behind p; no-read = no_read p; no-write = no_write p } };
+    ghost tied: { (p : Self) → facts p ≡ record { active = active p; reads = reads p; writes = writes p; behind = behind p; no_read = no_read p; no_write = no_write p } };
 
     ghost proper: { (p : Self) → Proper (facts p) };
 

@@ -1,5 +1,5 @@
 -- Aborting every task that a policy has open.
-use Rattle.std.proofs.Common.{◌≡◌, ℕ, zero, suc, ◌+◌, ◌<◌, ◌≤◌, Bool, true, false, cond, ltb, ◌≢◌, ◌⊎◌, List, [], ◌∷◌, ◌++◌, Ok, Err, Result, sym, refl, ap, ◌∙◌, subst, inl, inr, append-nil, add_one, arith}
+use Rattle.std.proofs.Common.{◌≡◌, ℕ, zero, suc, ◌+◌, ◌<◌, ◌≤◌, Bool, true, false, cond, ltb, ◌≢◌, ◌⊎◌, List, [], ◌∷◌, ◌++◌, Ok, Err, Result, sym, refl, ap, ◌∙◌, subst, inl, inr, append-nil, add-one, arith}
 use native.Mathlib.Decide.{ℕ_discrete}
 use Rattle.std.proofs.lemmas.Bool.{cases_Bool}
 use Rattle.policy.specs.Limits.{tasks}
@@ -40,7 +40,7 @@ module _ {P : Type 0} (facts : P → Facts) (after : P → Move → P → Type 0
   module _ (strict : Bool) (keeps : (p q : P) (m : Move) → after p m q → Keeps strict m (facts p) (facts q)) where
     pub cleared_more : (p q r : P) (n : ℕ) (s : Result Granted PolicyFault) → n < tasks → Cleared p n q
         → s ≡ abort_answer (facts q) n → Moved after (abort n) (abort n) q r s → Cleared p (n + 1) r
-    cleared_more p q r n s below k e m = rw add_one (go (cases_Bool ((facts q).active n)))
+    cleared_more p q r n s below k e m = rw add-one (go (cases_Bool ((facts q).active n)))
       where
         at : {x : Result Granted PolicyFault} → abort_answer (facts q) n ≡ x → Moved after (abort n) (abort n) q r x
         at i = subst (Moved after (abort n) (abort n) q r) (e ∙ i) m

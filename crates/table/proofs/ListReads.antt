@@ -1,5 +1,5 @@
 -- The reads of a list, place by place.
-use Rattle.std.proofs.Common.{◌≡◌, ℕ, suc, ◌+◌, ◌<◌, ◌≤◌, Bool, true, false, cond, List, [], ◌∷◌, ◌++◌, map, length, get_or, take, drop, set, ℤ, pos, Ok, Err, Result, sym, refl, ap, ◌∙◌, subst, add_one, arith}
+use Rattle.std.proofs.Common.{◌≡◌, ℕ, suc, ◌+◌, ◌<◌, ◌≤◌, Bool, true, false, cond, List, [], ◌∷◌, ◌++◌, map, length, get_or, take, drop, set, ℤ, pos, Ok, Err, Result, sym, refl, ap, ◌∙◌, subst, add-one, arith}
 use Rattle.std.proofs.lemmas.List.{take_all, take_more, take_more_set, map_more}
 use Rattle.policy.specs.Limits.{variables}
 use Rattle.policy.specs.Facts.{Facts, Proper, may_read}
@@ -55,7 +55,7 @@ module _ {P : Type 0} (facts : P → Facts) (after : P → Move → P → Type 0
           reads : GrantedReads facts after t (take (i + 1) vs) s.policy q (i + 1)
           reads =
               let more = collect_one facts after strict keeps t v q begun (collecting earlier.0) (keeps u.policy q (reads-variable t v) m).granted m in
-              rw (take_more vs i 0 here, add_one i) (collected more)
+              rw (take_more vs i 0 here, add-one i) (collected more)
 
           same : x ≡ sight facts s t v
           same = e ∙ same_sight v stages shared

@@ -1,6 +1,6 @@
 -- Bars that come from what other tasks have: `on` says that the barred task t is open.
 use Rattle.std.proofs.Common.{◌≡◌, ℕ, ◌<◌, Bool, true, false, not, ◌&&◌, eqb, ◌≢◌}
-use Rattle.std.proofs.lemmas.Bool.{and_parts, and_from, not_true, eqb-false}
+use Rattle.std.proofs.lemmas.Bool.{and_parts, and_from, not-true, eqb-false}
 use Rattle.policy.specs.Limits.{tasks}
 use Rattle.policy.proofs.SomeBelow.{some_below_witness, some_below_mono, some_below_same}
 use Rattle.transactions.specs.Sets.{some_other}
@@ -26,7 +26,7 @@ other_witness test t e = go (some_below_witness tasks (λ u. not (eqb u t) && te
     go : (u : ℕ) × (u < tasks) × ((not (eqb u t) && test u) ≡ true) → Other test t
     go w =
         let k = and_parts (not (eqb w.0 t)) (test w.0) w.2 in
-        record { by = w.0; below = w.1; other = eqb-false w.0 t (not_true _ k.0); passes = k.1 }
+        record { by = w.0; below = w.1; other = eqb-false w.0 t (not-true _ k.0); passes = k.1 }
 
 pub same_bar : (on on' : Bool) (test test' : ℕ → Bool) (t : ℕ) → on ≡ on' → Agree test test' t → (on && some_other test t) ≡ (on' && some_other test' t)
 same_bar on on' test test' t a l =

@@ -1,5 +1,5 @@
-use Rattle.std.proofs.Common.{◌≡◌, ℕ, ◌<◌, Bool, false, ◌&&◌, ltb, get_or, sym, ap, ◌∙◌, add_one}
-use Rattle.std.proofs.lemmas.Bool.{and_from, and_left, and_right, or_from, lt-ltb, le_ltb}
+use Rattle.std.proofs.Common.{◌≡◌, ℕ, ◌<◌, Bool, false, ◌&&◌, ltb, get_or, sym, ap, ◌∙◌, add-one}
+use Rattle.std.proofs.lemmas.Bool.{and_from, and_left, and_right, or_from, lt-ltb, le-ltb}
 use Rattle.policy.specs.Limits.{variables}
 use Rattle.policy.proofs.SomeBelow.{some_below_none, some_below_more, some_below_member}
 use Rattle.varset.specs.Members.{member}
@@ -34,7 +34,7 @@ loop-v-preserved c =
       | else-has-via-then-has+else-versions-v w ↦
           and_right has above
           (ap (ltb c.args.x.read_version) (number_at c.args.versions.now c.loop-v.v here)
-          ∙ le_ltb c.args.x.read_version (get_or c.args.versions.now c.loop-v.v 0) w.if-versions-v.false)
+          ∙ le-ltb c.args.x.read_version (get_or c.args.versions.now c.loop-v.v 0) w.if-versions-v.false)
       | else-has-via-else-has w ↦ and_left has above (sym w.if-has.ensures)
     ] in
-    rw add_one (some_below_more c.loop-v.v test ∙ or_from (test c.loop-v.v) _ out c.loop-v.invariant)
+    rw add-one (some_below_more c.loop-v.v test ∙ or_from (test c.loop-v.v) _ out c.loop-v.invariant)

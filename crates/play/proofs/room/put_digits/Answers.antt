@@ -1,6 +1,6 @@
 use Rattle.std.proofs.Common.{◌≡◌, ℕ, ◌+◌, ◌-◌, ◌%◌, List, [], ◌++◌, length, take, drop, decimal, sym, refl, ap, ◌∙◌, append-nil, arith}
 use Rattle.std.proofs.lemmas.Fmt.{decimal_nonempty}
-use Rattle.std.proofs.lemmas.List.{take_set_le}
+use Rattle.std.proofs.lemmas.List.{take-set-le}
 use Rattle.play.proofs.Digits.{one_digit_more, one_digit, digit_before, digit_first, digits_left, nothing_after}
 use Rattle.play.proofs.room.put_digits.Goals as goal
 
@@ -31,7 +31,7 @@ loop-left-preserved c =
       omega (arith, i.1),
       digit_before c.args.n c.loop-left.left c.loop-left.at c.args.end b c.loop-left.room (omega arith) i.1 refl
           d.0 d.1 (omega (arith, c.requires.room, c.loop-left.auto.room)) i.2,
-      take_set_le (c.args.end - length (decimal c.args.n)) c.loop-left.room (c.loop-left.at - 1) b (omega (arith, i.0, m, d.0)) ∙ i.3,
+      take-set-le (c.args.end - length (decimal c.args.n)) c.loop-left.room (c.loop-left.at - 1) b (omega (arith, i.0, m, d.0)) ∙ i.3,
     )
 
 pub overflow-sub-room : goal.overflow-sub-room

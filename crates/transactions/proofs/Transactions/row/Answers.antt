@@ -1,5 +1,5 @@
 use Rattle.std.proofs.Common.{◌≡◌, true, false, ltb}
-use Rattle.std.proofs.lemmas.Bool.{lt-ltb, le_ltb}
+use Rattle.std.proofs.lemmas.Bool.{lt-ltb, le-ltb}
 use Rattle.policy.specs.Limits.{tasks}
 use Rattle.transactions.specs.Rows.{row}
 use Rattle.transactions.proofs.Transactions.row.Goals as goal
@@ -13,5 +13,5 @@ returns-then-t-lt-TASKS c =
 pub returns-else-t-lt-TASKS : goal.returns-else-t-lt-TASKS
 unfolding row
 returns-else-t-lt-TASKS c =
-    let l : ltb c.args.task tasks ≡ false = le_ltb c.args.task tasks c.if-t-lt-TASKS.false in
+    let l : ltb c.args.task tasks ≡ false = le-ltb c.args.task tasks c.if-t-lt-TASKS.false in
     rw l

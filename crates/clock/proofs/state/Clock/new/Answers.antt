@@ -1,5 +1,5 @@
 use Rattle.std.proofs.Common.{◌≡◌, ℕ, ltb, replicate, is_some, None, Option, refl, ap, ◌∙◌, zero-le}
-use Rattle.std.proofs.lemmas.Bool.{le_ltb}
+use Rattle.std.proofs.lemmas.Bool.{le-ltb}
 use Rattle.policy.specs.Limits.{tasks, variables}
 use Rattle.clock.specs.declared.transaction.Transaction.{Transaction}
 use Rattle.clock.specs.Rows.{begun_after, row, rows}
@@ -11,7 +11,7 @@ none = None
 
 pub invariant-of-result : goal.invariant-of-result
 invariant-of-result c = (
-  (λ v. ap (ltb c.args.start) (getD_filled variables 0 v) ∙ le_ltb c.args.start 0 zero-le),
+  (λ v. ap (ltb c.args.start) (getD_filled variables 0 v) ∙ le-ltb c.args.start 0 zero-le),
   ((λ t. ap (begun_after c.args.start) (getD_filled tasks none t)), tt),
 )
 

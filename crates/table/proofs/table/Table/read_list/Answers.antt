@@ -1,5 +1,5 @@
 use Rattle.std.proofs.Common.{◌≡◌, ℕ, ◌+◌, ◌<◌, length, get_or, drop, replicate, pos, Err, sym, refl, ap, ◌∙◌, subst, arith, w32, to_z, of_z, rules}
-use Rattle.std.proofs.lemmas.List.{drop_set_lt, drop-drop}
+use Rattle.std.proofs.lemmas.List.{drop-set-lt, drop-drop}
 use Rattle.policy.specs.Moves.{read_refused}
 use Rattle.policy.specs.Moves.{read as reads-variable}
 use Rattle.policy.specs.Answers.{Moved}
@@ -42,7 +42,7 @@ loop-variable-preserved g c =
     let x = to_z w32 (of_z w32 c.look-value.result) in
     let z : x ≡ c.look-value.result = search rules in
     let rest =
-    drop_set_lt (i + 1) c.loop-variable.reply i x (omega arith) ∙ sym (drop-drop 1 i c.loop-variable.reply) ∙ ap (drop 1) c.loop-variable.invariant.1
+    drop-set-lt (i + 1) c.loop-variable.reply i x (omega arith) ∙ sym (drop-drop 1 i c.loop-variable.reply) ∙ ap (drop 1) c.loop-variable.invariant.1
     ∙ drop-drop 1 i c.args.reply.now
     in (
       omega arith,
