@@ -1,4 +1,6 @@
 // TL2: a clock, a version for each variable and a read version for each transaction.
+#![tactic(auto)]
+
 ghost use Rattle.std.specs.Prelude.{◌≡◌};
 ghost use Rattle.policy.specs.Facts.{Fresh};
 ghost use Rattle.clock.specs.Held.{meaning};

@@ -1,4 +1,6 @@
 // Runs of the clock policy.
+#![tactic(auto)]
+
 #[cfg(test)]
 mod tests {
     use clock::Clock;

@@ -1,4 +1,6 @@
 // The eager layer: over any policy, a task that is behind may neither read nor write any more.
+#![tactic(auto)]
+
 ghost use Rattle.std.specs.Prelude.{◌≡◌, true, ◌&&◌};
 ghost use Rattle.policy.specs.Facts.{Fresh};
 ghost use Rattle.policy.specs.Moves.{abort as aborts};

@@ -1,5 +1,7 @@
 // Histories of calls on a table, and the law that every run over any policy keeps.
 // The functions here carry theorems about runs; what they answer is a small fact beside it.
+#![tactic(auto)]
+
 ghost use Rattle.std.specs.Prelude.{◌≡◌, not, length};
 ghost use Rattle.history.specs.Runs.{LawStands, StaysSound, NeverRefusedAlone};
 ghost use Rattle.history.specs.Counts.{CountBounds};

@@ -1,4 +1,6 @@
 // Reads a schedule text from standard input and prints what is wrong with it.
+#![tactic(auto)]
+
 use schedule::report::check;
 use schedule::text::LONGEST_TEXT;
 use std::io;

@@ -1,4 +1,6 @@
 // Two-phase locking: a variable is locked by the task that reads or writes it, until the task ends.
+#![tactic(auto)]
+
 ghost use Rattle.transactions.specs.Rows.{sets};
 ghost use Rattle.lock.specs.Locks.{Apart};
 

@@ -1,4 +1,6 @@
 // DSTM with invisible reads: a task owns what it has written, and the readers of what a commit wrote fall behind.
+#![tactic(auto)]
+
 ghost use Rattle.std.specs.Prelude.{◌≡◌, true};
 ghost use Rattle.std.proofs.Common.{sym, subst, rules};
 ghost use Rattle.policy.specs.Facts.{Fresh, may_commit};

@@ -1,3 +1,5 @@
 // Schedules with what they print.
+#![tactic(auto)]
+
 mod rooms;
 mod schedules;

@@ -1,4 +1,6 @@
 // Tests of the policies through their common interface. A further policy is one test more in each module.
+#![tactic(auto)]
+
 #[cfg(test)]
 mod answers;
 #[cfg(test)]

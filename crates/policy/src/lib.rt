@@ -1,4 +1,6 @@
 // What a policy is: six facts for each task, and what each call may do to them.
+#![tactic(auto)]
+
 ghost use Rattle.std.specs.Prelude.{◌≡◌, ℕ, Bool, true, false};
 ghost use Rattle.policy.specs.Facts.{Facts, Proper, Fresh};
 ghost use Rattle.policy.specs.Moves.{Move, Keeps};

@@ -1,4 +1,6 @@
 // The C boundary: a schedule text in, what is printed of it out, without a heap.
+#![tactic(auto)]
+
 ghost use Rattle.std.specs.Prelude.{◌≡◌, ◌≤◌, length, pos};
 ghost use Rattle.play.specs.Output.{room_for};
 ghost use Rattle.polungaw.specs.Boundary.{Answered, table_bytes, table_limit};

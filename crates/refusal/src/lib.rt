@@ -1,4 +1,6 @@
 // Refusals: each has a number, by which support staff look it up.
+#![tactic(auto)]
+
 ghost use Rattle.std.specs.Prelude.{◌≡◌, ℕ};
 
 use std::convert::Infallible;

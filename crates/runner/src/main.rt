@@ -1,4 +1,6 @@
 // Reads a schedule text from standard input, runs it, and prints what each line came to.
+#![tactic(auto)]
+
 use play::outcome::RunFault;
 use play::texts::run;
 use schedule::text::LONGEST_TEXT;

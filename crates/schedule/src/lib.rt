@@ -1,4 +1,6 @@
 // The schedule text: which lines it has, which policy and commands they are, and where it lacks the form.
+#![tactic(auto)]
+
 pub mod choice;
 pub mod command;
 pub mod display;

@@ -1,4 +1,6 @@
 // Damaged lines and texts, beside good ones at the limits.
+#![tactic(auto)]
+
 #[cfg(test)]
 mod commands;
 #[cfg(test)]

@@ -1,4 +1,6 @@
 // Transactions over 64 shared variables for 8 tasks, under any policy.
+#![tactic(auto)]
+
 pub mod answer;
 pub mod apart;
 mod asking;

@@ -1,4 +1,6 @@
 // Runs of the table over several policies.
+#![tactic(auto)]
+
 #[cfg(test)]
 mod calls;
 pub mod counting;

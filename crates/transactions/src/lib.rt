@@ -1,4 +1,6 @@
 // The open transaction of each task, with its read set and its write set.
+#![tactic(auto)]
+
 ghost use Rattle.std.specs.Prelude.{◌≡◌};
 ghost use Rattle.varset.specs.Members.{Holds};
 ghost use Rattle.transactions.specs.Sets.{fit_task, fit_begin, fit_access, no_transactions, begun, ended, has_read, has_written, conflict as conflict_of};

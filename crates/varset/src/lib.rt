@@ -1,4 +1,6 @@
 // Sets of variables, as masks.
+#![tactic(auto)]
+
 ghost use Rattle.std.specs.Prelude.{◌≡◌, ℕ, not};
 ghost use Rattle.policy.specs.Limits.{variables};
 ghost use Rattle.policy.specs.Facts.{some_below};

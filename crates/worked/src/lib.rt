@@ -1,4 +1,6 @@
 // Ten schedules worked out, each proved of every run of its calls.
+#![tactic(auto)]
+
 ghost use Rattle.std.specs.Prelude.{◌≡◌, length};
 ghost use Rattle.worked.specs.Rows.{rows, Worked};
 
