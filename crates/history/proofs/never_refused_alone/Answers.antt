@@ -5,5 +5,5 @@ use Rattle.history.proofs.Stands.{lawful_alone}
 pub returns : goal.returns
 returns g c = record {
   lenient = search rules;
-  alone = λ a b h new run. lawful_alone h b.shared (c.law-stands.ensures.law a b h new run);
+  alone = λ a b h new run. lawful_alone h b.shared (c.law_stands.ensures.law a b h new run);
 }

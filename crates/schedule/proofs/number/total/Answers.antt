@@ -25,7 +25,7 @@ returns-then-sum-from c =
     record {
       value = sym (sym c.loop-d.invariant.1
           ∙ at_drop_more (digits_after c.args.top n) s i 0 c.loop-d-test.true
-          ∙ goes_on c.args.top n (get_or s i 0) (drop (i + 1) s) (sym c.if-not-is-ascii-digit.ensures.value)
+          ∙ goes_on c.args.top n (get_or s i 0) (drop (i + 1) s) (sym c.if-not-is_ascii_digit.ensures.value)
           ∙ too_large c.args.top (n * 10 + (get_or s i 0 - 48)) (drop (i + 1) s) (omega arith));
       bound = tt;
     }
@@ -37,7 +37,7 @@ loop-d-preserved c =
     let n = c.loop-d.sum in (
       omega arith,
       ap (λ (d : ℕ). digits_after c.args.top (n * 10 + d) (drop (i + 1) s)) c.from.ensures
-          ∙ sym (goes_on c.args.top n (get_or s i 0) (drop (i + 1) s) (sym c.if-not-is-ascii-digit.ensures.value))
+          ∙ sym (goes_on c.args.top n (get_or s i 0) (drop (i + 1) s) (sym c.if-not-is_ascii_digit.ensures.value))
           ∙ sym (at_drop_more (digits_after c.args.top n) s i 0 c.loop-d-test.true)
           ∙ c.loop-d.invariant.1,
     )

@@ -4,5 +4,5 @@ use Rattle.schedule.proofs.parsing.write.Goals as goal
 
 pub returns : goal.returns
 returns c =
-    let fits : SFits w32 c.in-ok-value.value = search rules in
-    rw (to_z-of_z fits) (write_made c.in-ok-task.ensures c.in-ok-variable.ensures c.in-ok-value.ensures)
+    let fits : SFits w32 c.in_ok-value.value = search rules in
+    rw (to_z-of_z fits) (write_made c.in_ok-task.ensures c.in_ok-variable.ensures c.in_ok-value.ensures)

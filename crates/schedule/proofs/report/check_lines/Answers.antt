@@ -9,5 +9,5 @@ loop-line-preserved c =
       s.1 ∙ sym s.2,
       omega (arith, i.0, i.1, s.1, ap length s.0),
       noted _ _ _ c.loop-line.count c.in-Some-line.line.number _ _ c.in-Some-line.line.bytes.now c.judge.result
-          s.0 (omega (arith, i.0, s.1)) i.2 c.judge.ensures c.in-ok-note.ensures,
+          s.0 (omega (arith, i.0, s.1)) i.2 c.judge.ensures c.in_ok-note.ensures,
     )

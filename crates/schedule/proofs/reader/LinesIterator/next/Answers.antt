@@ -19,14 +19,14 @@ invariant-of-self c =
 
 pub returns : goal.returns
 returns c =
-    let some : 0 < length c.in-ok-text.text.now = let t = c.if-is-empty.ensures in grind (arith, nat_tests) in
-    let less = cut_shorter line_feed c.in-ok-text.text.now c.cut.result.0.now c.cut.result.1 some c.cut.ensures in
+    let some : 0 < length c.in_ok-text.text.now = let t = c.if-is_empty.ensures in grind (arith, nat_tests) in
+    let less = cut_shorter line_feed c.in_ok-text.text.now c.cut.result.0.now c.cut.result.1 some c.cut.ensures in
     record {
       steps = (
-        ap lines_left c.in-ok-text.was
-            ∙ lines_cut c.in-ok-text.text.now c.cut.result.0.now c.cut.result.1 some c.cut.ensures,
+        ap lines_left c.in_ok-text.was
+            ∙ lines_cut c.in_ok-text.text.now c.cut.result.0.now c.cut.result.1 some c.cut.ensures,
         refl,
         refl,
       );
-      goes = firm ((tt, tt, omega (arith, less, ap bytes_left c.in-ok-text.was))) (λ h. search rules);
+      goes = firm ((tt, tt, omega (arith, less, ap bytes_left c.in_ok-text.was))) (λ h. search rules);
     }
