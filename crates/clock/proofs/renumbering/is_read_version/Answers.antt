@@ -6,7 +6,7 @@ use Rattle.clock.specs.Steps.{read_versions}
 use Rattle.clock.specs.Rows.{rows, row, running}
 use Rattle.clock.specs.ReadVersions.{row_at, read_versions_none, read_versions_idle, read_versions_begun, among_read_versions}
 use Rattle.clock.proofs.renumbering.is_read_version.Goals as goal
-use Rattle.clock.proofs.renumbering.is_read_version.Goals.{in-Some+else-x-number, in-default}
+use Rattle.clock.proofs.renumbering.is_read_version.Goals.{in-Some+else-x-number, in_default}
 
 pub loop-t-init : goal.loop-t-init
 unfolding among
@@ -29,7 +29,7 @@ loop-t-preserved c =
           let e = read_versions_begun c.args.transactions.now c.loop-t.t there w.in-Some.x w.in-Some.is in
           ap (λ ns. among ns c.args.number) e
           ∙ or_from _ _ (ne_eqb w.in-Some.x.read_version c.args.number w.if-x-number.false) c.loop-t.invariant
-      | in-default w ↦
-          let e = read_versions_idle c.args.transactions.now c.loop-t.t there w.in-default.not-Some in
+      | in_default w ↦
+          let e = read_versions_idle c.args.transactions.now c.loop-t.t there w.in_default.not-Some in
           ap (λ ns. among ns c.args.number) e ∙ c.loop-t.invariant
     ]

@@ -6,22 +6,22 @@ use Rattle.play.proofs.Adding.{adds_then, adds_refused, adds_is}
 use Rattle.play.proofs.Lengths.{value_short, within, within_refused}
 use Rattle.play.proofs.printing.put_reading.Goals as goal
 
-pub returns-in-err-used : goal.returns-in-err-used
-returns-in-err-used c =
-    let p = err_from_is_err_and c.from-residual.result c.from-residual.ensures.1 in
-    let e = c.in-err-used.ensures in record {
-      added = adds_refused (codes " = ") (signed_decimal c.args.value) c.args.used c.args.room.now c.put-text.new.room c.put-text.new.room
-          c.from-residual.result c.in-err-used.field-0.0 p.0 p.1 e;
-      within = within_refused longest_reply c.args.used c.args.room.now c.from-residual.result p.0 p.1 (omega (arith, e));
+pub returns-in_err-used : goal.returns-in_err-used
+returns-in_err-used c =
+    let p = err_from_is_err_and c.from_residual.result c.from_residual.ensures.1 in
+    let e = c.in_err-used.ensures in record {
+      added = adds_refused (codes " = ") (signed_decimal c.args.value) c.args.used c.args.room.now c.put_text.new.room c.put_text.new.room
+          c.from_residual.result c.in_err-used.field-0.0 p.0 p.1 e;
+      within = within_refused longest_reply c.args.used c.args.room.now c.from_residual.result p.0 p.1 (omega (arith, e));
     }
 
 pub returns : goal.returns
 returns c =
     let same : to_z w32 (of_z w32 c.args.value) ≡ c.args.value = search rules in
-    let v = adds_is (signed_decimal c.args.value) (signed_decimal (to_z w32 (of_z w32 c.args.value))) c.in-ok-used.used c.put-text.new.room
-    c.put-value.new.room c.put-value.result (ap signed_decimal (sym same)) c.put-value.ensures in
-    let a = adds_then (codes " = ") (signed_decimal c.args.value) c.args.used c.in-ok-used.used c.args.room.now c.put-text.new.room
-    c.put-value.new.room c.put-value.result c.put-text.auto.room c.in-ok-used.ensures v in record {
+    let v = adds_is (signed_decimal c.args.value) (signed_decimal (to_z w32 (of_z w32 c.args.value))) c.in_ok-used.used c.put_text.new.room
+    c.put_value.new.room c.put_value.result (ap signed_decimal (sym same)) c.put_value.ensures in
+    let a = adds_then (codes " = ") (signed_decimal c.args.value) c.args.used c.in_ok-used.used c.args.room.now c.put_text.new.room
+    c.put_value.new.room c.put_value.result c.put_text.auto.room c.in_ok-used.ensures v in record {
       added = a;
-      within = within longest_reply (value_text c.args.value) c.args.used c.args.room.now c.put-value.new.room c.put-value.result (value_short c.args.value c.ranges.value) a;
+      within = within longest_reply (value_text c.args.value) c.args.used c.args.room.now c.put_value.new.room c.put_value.result (value_short c.args.value c.ranges.value) a;
     }

@@ -4,4 +4,4 @@ use Rattle.play.proofs.room.put_text.Goals as goal
 
 pub returns : goal.returns
 returns c =
-    adds_part c.args.text.now c.args.used c.args.room.now c.copy-from-slice.new.self (omega arith) c.copy-from-slice.ensures.after
+    adds_part c.args.text.now c.args.used c.args.room.now c.copy_from_slice.new.self (omega arith) c.copy_from_slice.ensures.after

@@ -4,14 +4,14 @@ use Rattle.play.proofs.texts.run_into.Goals as goal
 
 pub returns-in-Ok : goal.returns-in-Ok
 returns-in-Ok c = record {
-  filled = filled_ok c.args.text.now c.args.room.now c.run-text.new.room c.clear-from.new.room c.in-Ok.used
-      c.run-text.auto.room c.in-Ok.ensures.fronts c.clear-from.ensures;
+  filled = filled_ok c.args.text.now c.args.room.now c.run_text.new.room c.clear_from.new.room c.in-Ok.used
+      c.run_text.auto.room c.in-Ok.ensures.fronts c.clear_from.ensures;
   enough = λ h. refl;
 }
 
 pub returns-in-Err : goal.returns-in-Err
 returns-in-Err c = record {
-  filled = filled_refused c.args.text.now c.args.room.now c.run-text.new.room c.clear-from-in-Err.new.room c.in-Err.no_room
-      c.run-text.auto.room c.in-Err.ensures.fronts c.clear-from-in-Err.ensures;
+  filled = filled_refused c.args.text.now c.args.room.now c.run_text.new.room c.clear_from-in-Err.new.room c.in-Err.no_room
+      c.run_text.auto.room c.in-Err.ensures.fronts c.clear_from-in-Err.ensures;
   enough = λ h. absurd (let w = c.in-Err.ensures.within in omega (arith, h, w));
 }

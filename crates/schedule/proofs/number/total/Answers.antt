@@ -5,15 +5,15 @@ use Rattle.schedule.specs.Numbers.{digits_after}
 use Rattle.schedule.proofs.Sums.{stops_at, too_large, goes_on, ends_with}
 use Rattle.schedule.proofs.number.total.Goals as goal
 
-pub returns-then-not-is-ascii-digit : goal.returns-then-not-is-ascii-digit
-returns-then-not-is-ascii-digit c =
+pub returns-then-not-is_ascii_digit : goal.returns-then-not-is_ascii_digit
+returns-then-not-is_ascii_digit c =
     let s = c.args.digits.now in
     let i = c.loop-d.d-index in
     let n = c.loop-d.sum in
     record {
       value = sym (sym c.loop-d.invariant.1
           ∙ at_drop_more (digits_after c.args.top n) s i 0 c.loop-d-test.true
-          ∙ stops_at c.args.top n (get_or s i 0) (drop (i + 1) s) (sym c.if-not-is-ascii-digit.ensures.value));
+          ∙ stops_at c.args.top n (get_or s i 0) (drop (i + 1) s) (sym c.if-not-is_ascii_digit.ensures.value));
       bound = tt;
     }
 

@@ -28,7 +28,7 @@ returns-in-32 c =
     ∙ sym (parsed_spaced c.args.line.now (search rules) (search rules)) in
     record { value = e; taken = taken c.args.line.now _ e }
 
-pub returns-in-default : goal.returns-in-default
-returns-in-default c =
+pub returns-in_default : goal.returns-in_default
+returns-in_default c =
     let e = sym (parsed_joined c.args.line.now (search rules) (search rules)) in
     record { value = e; taken = taken c.args.line.now _ e }

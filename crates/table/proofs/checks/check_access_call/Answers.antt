@@ -9,7 +9,7 @@ use Rattle.table.proofs.checks.check_access_call.Goals as goal
 
 pub returns : goal.returns
 returns c =
-    let right = (passed_ok (wrong (read c.args.task c.args.variable)) none c.in-ok-check-access.ensures).0 in
+    let right = (passed_ok (wrong (read c.args.task c.args.variable)) none c.in_ok-check_access.ensures).0 in
     record {
       all = omega arith;
       answer = rw right c.admit.ensures.answer;

@@ -8,10 +8,10 @@ use Rattle.table.specs.declared.stage.Stage.TheVariants.{Idle}
 use Rattle.table.proofs.Checking.{passed_anyway, no_such_task}
 use Rattle.table.proofs.checks.check_call.Goals as goal
 
-pub returns-in-err-check-task : goal.returns-in-err-check-task
-returns-in-err-check-task c =
-    let p = err_from_is_err_and c.from-residual.result c.from-residual.ensures.1 in
-    let e = c.in-err-check-task.ensures in
+pub returns-in_err-check_task : goal.returns-in_err-check_task
+returns-in_err-check_task c =
+    let p = err_from_is_err_and c.from_residual.result c.from_residual.ensures.1 in
+    let e = c.in_err-check_task.ensures in
     let s = get_or c.args.stages.now c.args.task Idle in
     let h : tasks ≤ c.args.task = no_such_task c.args.task e in
     let l : length c.args.stages.now ≤ c.args.task = omega arith in

@@ -6,4 +6,4 @@ use Rattle.transactions.proofs.Transactions.conflict.Goals as goal
 pub returns : goal.returns
 returns c =
     c.meets.ensures
-    ∙ some_below_same variables _ _ (λ v h. let r = c.read-set.ensures v in let w = c.write-set.ensures v in cc)
+    ∙ some_below_same variables _ _ (λ v h. let r = c.read_set.ensures v in let w = c.write_set.ensures v in cc)

@@ -12,5 +12,5 @@ some_there (Some x) = refl
 pub returns : goal.returns
 unfolding sets
 returns c =
-    c.is-some.ensures ∙ some_there c.row.result ∙ ap is_there c.row.ensures
+    c.is_some.ensures ∙ some_there c.row.result ∙ ap is_there c.row.ensures
     ∙ there_fit c.args.self.now.rows c.args.task

@@ -17,6 +17,6 @@ returns-else-not-has c =
     own_has_read c.args.self.now.rows c.args.task c.args.variable
     c.in-Some.field-0 (sym c.row.ensures ∙ c.in-Some.is) (sym c.has.ensures ∙ c.if-not-has.false)
 
-pub returns-in-default : goal.returns-in-default
+pub returns-in_default : goal.returns-in_default
 unfolding sets
-returns-in-default c = none_has_read c.args.self.now.rows c.args.task c.args.variable (sym c.row.ensures ∙ c.in-default.is)
+returns-in_default c = none_has_read c.args.self.now.rows c.args.task c.args.variable (sym c.row.ensures ∙ c.in_default.is)

@@ -10,6 +10,6 @@ returns-in-Some c =
     c.in-Some.field-0 (record { reads = c.in-Some.field-0.reads; writes = c.with-writes.result })
     (sym c.row.ensures ∙ c.in-Some.is) c.put.ensures refl c.with-writes.ensures
 
-pub returns-in-default : goal.returns-in-default
+pub returns-in_default : goal.returns-in_default
 unfolding sets
-returns-in-default c = none_has_written c.args.self.now.rows c.args.task c.args.variable (sym c.row.ensures ∙ c.in-default.is)
+returns-in_default c = none_has_written c.args.self.now.rows c.args.task c.args.variable (sym c.row.ensures ∙ c.in_default.is)

@@ -4,14 +4,14 @@ use Rattle.varset.specs.Members.{member}
 use Rattle.varset.proofs.Masks.{bit_test}
 use Rattle.varset.proofs.VarSet.has.Goals as goal
 
-pub returns-then-is-variable : goal.returns-then-is-variable
+pub returns-then-is_variable : goal.returns-then-is_variable
 unfolding member
-returns-then-is-variable c =
-    let l : ltb c.args.variable variables ≡ true = sym c.is-variable.ensures ∙ c.if-is-variable.true in
+returns-then-is_variable c =
+    let l : ltb c.args.variable variables ≡ true = sym c.is_variable.ensures ∙ c.if-is_variable.true in
     rw l (bit_test c.args.self.mask c.args.variable)
 
-pub returns-else-is-variable : goal.returns-else-is-variable
+pub returns-else-is_variable : goal.returns-else-is_variable
 unfolding member
-returns-else-is-variable c =
-    let l : ltb c.args.variable variables ≡ false = sym c.is-variable.ensures ∙ c.if-is-variable.false in
-    rw l c.if-is-variable.false
+returns-else-is_variable c =
+    let l : ltb c.args.variable variables ≡ false = sym c.is_variable.ensures ∙ c.if-is_variable.false in
+    rw l c.if-is_variable.false

@@ -6,14 +6,14 @@ pub returns : goal.returns
 returns c = record {
   hold = all_hold;
   played =
-      (c.play-locked.result, c.play-locked.ensures) and
-      (c.play-both-read.result, c.play-both-read.ensures) and
-      (c.play-too-new.result, c.play-too-new.ensures) and
-      (c.play-newly-read.result, c.play-newly-read.ensures) and
-      (c.play-behind-reads-on.result, c.play-behind-reads-on.ensures) and
-      (c.play-behind-is-barred.result, c.play-behind-is-barred.ensures) and
-      (c.play-behind-writer.result, c.play-behind-writer.ensures) and
-      (c.play-eagerly-barred.result, c.play-eagerly-barred.ensures) and
-      (c.play-owned.result, c.play-owned.ensures) and
-      (c.play-renumbered.result, c.play-renumbered.ensures) and tt;
+      (c.play_locked.result, c.play_locked.ensures) and
+      (c.play_both_read.result, c.play_both_read.ensures) and
+      (c.play_too_new.result, c.play_too_new.ensures) and
+      (c.play_newly_read.result, c.play_newly_read.ensures) and
+      (c.play_behind_reads_on.result, c.play_behind_reads_on.ensures) and
+      (c.play_behind_is_barred.result, c.play_behind_is_barred.ensures) and
+      (c.play_behind_writer.result, c.play_behind_writer.ensures) and
+      (c.play_eagerly_barred.result, c.play_eagerly_barred.ensures) and
+      (c.play_owned.result, c.play_owned.ensures) and
+      (c.play_renumbered.result, c.play_renumbered.ensures) and tt;
 }

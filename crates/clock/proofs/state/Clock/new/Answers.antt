@@ -9,11 +9,11 @@ use Rattle.clock.proofs.state.Clock.new.Goals as goal
 abbrev none : Option Transaction
 none = None
 
-pub invariant-of-result : goal.invariant-of-result
-invariant-of-result c = (
-  (λ v. ap (ltb c.args.start) (getD_filled variables 0 v) ∙ le-ltb c.args.start 0 zero-le),
-  ((λ t. ap (begun_after c.args.start) (getD_filled tasks none t)), tt),
-)
+pub invariant_of-result : goal.invariant_of-result
+invariant_of-result c = record {
+  written = λ v. ap (ltb c.args.start) (getD_filled variables 0 v) ∙ le-ltb c.args.start 0 zero-le;
+  begun = λ t. ap (begun_after c.args.start) (getD_filled tasks none t);
+}
 
 no_transaction : (t : ℕ) → rows (replicate tasks none) t ≡ None
 no_transaction =

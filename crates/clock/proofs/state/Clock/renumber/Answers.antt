@@ -21,23 +21,24 @@ renumbers p n clock ns ts wide e c m r =
     renumbered_arrays p.clock p.versions p.transactions (sound p) wide clock ns ts
     (c ∙ ap (λ k. new_number p.transactions (k + 1)) e) m r
 
-pub invariant-of-self-2 : goal.invariant-of-self-2
-invariant-of-self-2 c =
+pub invariant_of-self-2 : goal.invariant_of-self-2
+invariant_of-self-2 c =
     let wide : length c.args.self.now.versions ≡ variables = omega arith in
-    policy_from c.different-below-clock.result c.renumber-versions.new.versions
-    c.renumber-transactions.new.transactions c.renumber-versions.array_long c.renumber-transactions.array_long
+    let holds = policy_from c.different_below-clock.result c.renumber_versions.new.versions
+    c.renumber_transactions.new.transactions c.renumber_versions.array_long c.renumber_transactions.array_long
     (subst Sound
     (sym
-    (renumbers c.args.self.now c.from.result c.different-below-clock.result c.renumber-versions.new.versions
-    c.renumber-transactions.new.transactions wide c.from.ensures c.different-below-clock.ensures.number
-    c.renumber-versions.ensures c.renumber-transactions.ensures))
-    (renumbered_sound (held c.args.self.now) (sound c.args.self.now)))
+    (renumbers c.args.self.now c.from.result c.different_below-clock.result c.renumber_versions.new.versions
+    c.renumber_transactions.new.transactions wide c.from.ensures c.different_below-clock.ensures.number
+    c.renumber_versions.ensures c.renumber_transactions.ensures))
+    (renumbered_sound (held c.args.self.now) (sound c.args.self.now))) in
+    record { written = holds.0; begun = holds.1.0 }
 
 pub returns : goal.returns
 returns c =
     let wide : length c.args.self.now.versions ≡ variables = omega arith in
     let e =
-    renumbers c.args.self.now c.from.result c.different-below-clock.result c.renumber-versions.new.versions
-    c.renumber-transactions.new.transactions wide c.from.ensures c.different-below-clock.ensures.number
-    c.renumber-versions.ensures c.renumber-transactions.ensures in
+    renumbers c.args.self.now c.from.result c.different_below-clock.result c.renumber_versions.new.versions
+    c.renumber_transactions.new.transactions wide c.from.ensures c.different_below-clock.ensures.number
+    c.renumber_versions.ensures c.renumber_transactions.ensures in
     record { numbers = e; same = ap meaning e ∙ renumbered_meaning (held c.args.self.now) (sound c.args.self.now) }

@@ -19,18 +19,19 @@ stamps : (p : Clock) (w : VarSet) (ns : List ℕ) → length p.versions ≡ vari
 stamps p w ns wide n =
     stamped_arrays p.clock p.versions p.transactions (sound p) wide (member w) ns (member_outside w) n
 
-pub invariant-of-self : goal.invariant-of-self
-invariant-of-self c =
+pub invariant_of-self : goal.invariant_of-self
+invariant_of-self c =
     let p : Clock = c.args.self.now in
     let wide : length c.args.self.now.versions ≡ variables = omega arith in
-    let s : Sound (holding (p.clock + 1) c.stamp-versions.new.versions p.transactions) =
-    subst Sound (sym (stamps p c.args.written c.stamp-versions.new.versions wide c.stamp-versions.ensures))
-    (stamped_sound (member c.args.written) (held p) (sound p) (member_outside c.args.written)) in (
-      written_from (p.clock + 1) c.stamp-versions.new.versions c.stamp-versions.array_long s.versions,
-      ((λ t. begun_later p.clock (get_or p.transactions t None) (p.begun t)), tt),
-    )
+    let s : Sound (holding (p.clock + 1) c.stamp_versions.new.versions p.transactions) =
+    subst Sound (sym (stamps p c.args.written c.stamp_versions.new.versions wide c.stamp_versions.ensures))
+    (stamped_sound (member c.args.written) (held p) (sound p) (member_outside c.args.written)) in
+    record {
+      written = written_from (p.clock + 1) c.stamp_versions.new.versions c.stamp_versions.array_long s.versions;
+      begun = λ t. begun_later p.clock (get_or p.transactions t None) (p.begun t);
+    }
 
 pub returns : goal.returns
 returns c =
     let wide : length c.args.self.now.versions ≡ variables = omega arith in
-    stamps c.args.self.now c.args.written c.stamp-versions.new.versions wide c.stamp-versions.ensures
+    stamps c.args.self.now c.args.written c.stamp_versions.new.versions wide c.stamp_versions.ensures

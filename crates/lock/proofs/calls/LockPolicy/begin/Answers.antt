@@ -4,5 +4,5 @@ use Rattle.lock.specs.After.{held}
 use Rattle.lock.specs.Apart.{apart_begun}
 use Rattle.lock.proofs.calls.LockPolicy.begin.Goals as goal
 
-pub invariant-of-self : goal.invariant-of-self
-invariant-of-self c = (subst Apart (sym c.begin.ensures) (apart_begun (held c.args.self.now) c.args.task c.args.self.now.apart), tt)
+pub invariant_of-self : goal.invariant_of-self
+invariant_of-self c = record { apart = subst Apart (sym c.begin.ensures) (apart_begun (held c.args.self.now) c.args.task c.args.self.now.apart) }

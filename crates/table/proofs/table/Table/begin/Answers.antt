@@ -7,20 +7,20 @@ use Rattle.table.proofs.Beginning.{begin_granted}
 use Rattle.table.proofs.StepMaking.{unmoved_step, stepped}
 use Rattle.table.proofs.table.Table.begin.Goals as goal
 
-pub returns-in-err-check-call : goal.returns-in-err-check-call
-returns-in-err-check-call g c sound =
-    let p = err_from_is_err_and c.from-residual.result c.from-residual.ensures.1 in
-    let same = c.check-call.ensures.moved ∙ set-get_or c.args.self.now.stages c.args.task Idle in
+pub returns-in_err-check_call : goal.returns-in_err-check_call
+returns-in_err-check_call g c sound =
+    let p = err_from_is_err_and c.from_residual.result c.from_residual.ensures.1 in
+    let same = c.check_call.ensures.moved ∙ set-get_or c.args.self.now.stages c.args.task Idle in
     rw (p.1, p.2)
     (stepped g.P.Policy.facts g.P.Policy.after g.P.Policy.strict g.met.P.Policy.keeps g.met.P.Policy.proper (begin c.args.task) _ _ _ sound
-    (unmoved_step g.P.Policy.facts g.P.Policy.after g.P.Policy.strict (begin c.args.task) c.in-err-check-call.field-0.0
-    c.args.self.now.policy c.args.self.now.stages c.check-call.new.stages c.args.self.now.shared
-    c.in-err-check-call.ensures.answer same (λ x s. refl)))
+    (unmoved_step g.P.Policy.facts g.P.Policy.after g.P.Policy.strict (begin c.args.task) c.in_err-check_call.field-0.0
+    c.args.self.now.policy c.args.self.now.stages c.check_call.new.stages c.args.self.now.shared
+    c.in_err-check_call.ensures.answer same (λ x s. refl)))
 
 pub returns : goal.returns
 returns g c sound =
-    let same : c.check-call.new.stages ≡ c.args.self.now.stages =
-    c.check-call.ensures.moved ∙ set-get_or c.args.self.now.stages c.args.task Idle in
+    let same : c.check_call.new.stages ≡ c.args.self.now.stages =
+    c.check_call.ensures.moved ∙ set-get_or c.args.self.now.stages c.args.task Idle in
     stepped g.P.Policy.facts g.P.Policy.after g.P.Policy.strict g.met.P.Policy.keeps g.met.P.Policy.proper (begin c.args.task) _ _ _ sound
-    (rw (c.open-task.ensures, same) (begin_granted g.P.Policy.facts g.P.Policy.after g.P.Policy.strict c.args.task c.args.self.now.policy c.begin.new.self
-    c.args.self.now.stages c.args.self.now.shared c.check-call.ensures.all c.in-ok-check-call.ensures.answer c.in-ok-granted.ensures.moved))
+    (rw (c.open_task.ensures, same) (begin_granted g.P.Policy.facts g.P.Policy.after g.P.Policy.strict c.args.task c.args.self.now.policy c.begin.new.self
+    c.args.self.now.stages c.args.self.now.shared c.check_call.ensures.all c.in_ok-check_call.ensures.answer c.in_ok-granted.ensures.moved))

@@ -13,16 +13,16 @@ use Rattle.table.proofs.StepMaking.{unmoved_step, stepped}
 use Rattle.table.proofs.CollectSteps.{passed_late, replied_refusing, values_then_zeros, collect_granted, collect_refused}
 use Rattle.table.proofs.table.Table.collect.Goals as goal
 
-pub returns-in-err-check-list : goal.returns-in-err-check-list
-returns-in-err-check-list g c =
+pub returns-in_err-check_list : goal.returns-in_err-check_list
+returns-in_err-check_list g c =
     let t = c.args.task in
     let vs = c.args.list.now in
     let s = c.args.self.now in
     let room = length c.args.reply.now in
     let len : length c.clear.new.reply ≡ room = omega arith in
-    let f = c.in-err-check-list.field-0.0 in
-    let e = rw len at c.in-err-check-list.ensures in
-    let p = err_from_is_err_and c.from-residual.result c.from-residual.ensures.1 in
+    let f = c.in_err-check_list.field-0.0 in
+    let e = rw len at c.in_err-check_list.ensures in
+    let p = err_from_is_err_and c.from_residual.result c.from_residual.ensures.1 in
     record {
       step = λ sound. rw (p.1, p.2) (stepped g.P.Policy.facts g.P.Policy.after g.P.Policy.strict g.met.P.Policy.keeps g.met.P.Policy.proper
           (collect t vs room) _ _ _ sound (unmoved_step g.P.Policy.facts g.P.Policy.after g.P.Policy.strict (collect t vs room) f s.policy s.stages s.stages
@@ -30,18 +30,18 @@ returns-in-err-check-list g c =
       buffer = rw p.1 (c.clear.ensures ∙ sym (replied_refusing (refusal_of p.0) room));
     }
 
-pub returns-in-err-admit : goal.returns-in-err-admit
-returns-in-err-admit g c =
+pub returns-in_err-admit : goal.returns-in_err-admit
+returns-in_err-admit g c =
     let t = c.args.task in
     let vs = c.args.list.now in
     let s = c.args.self.now in
     let room = length c.args.reply.now in
     let len : length c.clear.new.reply ≡ room = omega arith in
-    let f = c.in-err-admit.field-0.0 in
-    let p = err_from_is_err_and c.from-residual-in-err-admit.result c.from-residual-in-err-admit.ensures.1 in
+    let f = c.in_err-admit.field-0.0 in
+    let p = err_from_is_err_and c.from_residual-in_err-admit.result c.from_residual-in_err-admit.ensures.1 in
     let once = c.admit.ensures.moved ∙ set-get_or s.stages t Idle in
-    let late = passed_late (wrong_list t vs room) (must_be_active (stage_of (get_or s.stages t Idle))) (rw len at c.in-ok-check-list.ensures)
-    c.in-err-admit.ensures.answer
+    let late = passed_late (wrong_list t vs room) (must_be_active (stage_of (get_or s.stages t Idle))) (rw len at c.in_ok-check_list.ensures)
+    c.in_err-admit.ensures.answer
     in
     record {
       step = λ sound. rw (p.1, p.2) (stepped g.P.Policy.facts g.P.Policy.after g.P.Policy.strict g.met.P.Policy.keeps g.met.P.Policy.proper
@@ -55,21 +55,21 @@ returns-in-Ok g c =
     let t = c.args.task in
     let vs = c.args.list.now in
     let s = c.args.self.now in
-    let u = c.read-list.new.self in
+    let u = c.read_list.new.self in
     let room = length c.args.reply.now in
     let len : length c.clear.new.reply ≡ room = omega arith in
     let once = c.admit.ensures.moved ∙ set-get_or s.stages t Idle in
-    let fine = (passed_ok (wrong_list t vs room) none (rw len at c.in-ok-check-list.ensures)).0 in
-    let timely = (passed_ok none (must_be_active (stage_of (get_or s.stages t Idle))) c.in-ok-admit.ensures.answer).1 in
+    let fine = (passed_ok (wrong_list t vs room) none (rw len at c.in_ok-check_list.ensures)).0 in
+    let timely = (passed_ok none (must_be_active (stage_of (get_or s.stages t Idle))) c.in_ok-admit.ensures.answer).1 in
     let right = list_right t vs room fine in
-    let old : drop (length vs) c.read-list.new.reply ≡ drop (length vs) (replicate room (pos 0)) =
+    let old : drop (length vs) c.read_list.new.reply ≡ drop (length vs) (replicate room (pos 0)) =
     c.in-Ok.ensures.leaves ∙ ap (drop (length vs)) c.clear.ensures
     in
     record {
       step = λ sound. collect_granted g.P.Policy.facts g.P.Policy.after g.P.Policy.strict g.met.P.Policy.keeps g.met.P.Policy.proper t vs room
-          s.policy u.policy s.stages c.admit.new.stages u.stages s.shared u.shared once c.read-list.ensures.stages c.read-list.ensures.shared
-          fine timely sound c.in-Ok.collected.reads c.read-list.new.reply c.in-Ok.ensures.reads;
-      buffer = values_then_zeros (length vs) room c.read-list.new.reply (omega arith) old;
+          s.policy u.policy s.stages c.admit.new.stages u.stages s.shared u.shared once c.read_list.ensures.stages c.read_list.ensures.shared
+          fine timely sound c.in-Ok.collected.reads c.read_list.new.reply c.in-Ok.ensures.reads;
+      buffer = values_then_zeros (length vs) room c.read_list.new.reply (omega arith) old;
     }
 
 pub returns-in-Err : goal.returns-in-Err
@@ -77,17 +77,17 @@ returns-in-Err g c =
     let t = c.args.task in
     let vs = c.args.list.now in
     let s = c.args.self.now in
-    let u = c.read-list.new.self in
+    let u = c.read_list.new.self in
     let room = length c.args.reply.now in
     let len : length c.clear.new.reply ≡ room = omega arith in
     let once = c.admit.ensures.moved ∙ set-get_or s.stages t Idle in
-    let fine = (passed_ok (wrong_list t vs room) none (rw len at c.in-ok-check-list.ensures)).0 in
-    let timely = (passed_ok none (must_be_active (stage_of (get_or s.stages t Idle))) c.in-ok-admit.ensures.answer).1 in
+    let fine = (passed_ok (wrong_list t vs room) none (rw len at c.in_ok-check_list.ensures)).0 in
+    let timely = (passed_ok none (must_be_active (stage_of (get_or s.stages t Idle))) c.in_ok-admit.ensures.answer).1 in
     let right = list_right t vs room fine in
     let below : t < length s.stages = omega (arith, c.admit.ensures.all) in
     record {
       step = λ sound. collect_refused g.P.Policy.facts g.P.Policy.after g.P.Policy.strict g.met.P.Policy.keeps g.met.P.Policy.proper t vs room
-          s.policy u.policy s.stages c.admit.new.stages u.stages s.shared u.shared once c.read-list.ensures.stages c.read-list.ensures.shared
-          fine timely sound c.in-Err.fault c.break-task.new.stages c.break-task.ensures below c.in-Err.ensures.reads;
+          s.policy u.policy s.stages c.admit.new.stages u.stages s.shared u.shared once c.read_list.ensures.stages c.read_list.ensures.shared
+          fine timely sound c.in-Err.fault c.break_task.new.stages c.break_task.ensures below c.in-Err.ensures.reads;
       buffer = c.in-Err.ensures.leaves ∙ ap (λ (n : ℕ). replicate n (pos 0)) len ∙ sym (replied_refusing (refusal_of c.in-Err.fault) room);
     }
