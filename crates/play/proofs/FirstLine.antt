@@ -13,7 +13,7 @@ use Rattle.eager.specs.Layer.{fenced, After as Layer-after}
 use Rattle.table.specs.Faults.{numbered}
 use Rattle.table.specs.declared.fault.TableFault.{TableFault}
 use Rattle.play.specs.declared.outcome.NoRoom.{NoRoom}
-use Rattle.play.specs.Room.{Adds, Within, TooLong, Fronts}
+use Rattle.play.specs.Room.{Adds, Within, Fronts}
 use Rattle.play.specs.Printed.{printed, refused_text, longest_line}
 use Rattle.play.specs.Playing.{Over}
 use Rattle.play.specs.Output.{From, FromEager, Runs, Says, most_printed}

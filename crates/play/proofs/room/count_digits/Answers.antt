@@ -3,8 +3,8 @@ use Rattle.play.proofs.Digits.{one_digit_more, one_digit}
 use Rattle.play.proofs.Lengths.{number_short}
 use Rattle.play.proofs.room.count_digits.Goals as goal
 
-pub overflow-add-count : goal.overflow-add-count
-overflow-add-count c =
+pub overflow_add-count : goal.overflow_add-count
+overflow_add-count c =
     let i = c.loop-left.invariant in
     let s = number_short c.args.n (omega arith) in omega (arith, i.0, s)
 

@@ -12,8 +12,8 @@ loop-left-init c = (
   refl,
 )
 
-pub overflow-sub-at : goal.overflow-sub-at
-overflow-sub-at c = let i = c.loop-left.invariant in let s = decimal_nonempty c.loop-left.left i.1 in omega (arith, i.0, s, c.requires.digits)
+pub overflow_sub-at : goal.overflow_sub-at
+overflow_sub-at c = let i = c.loop-left.invariant in let s = decimal_nonempty c.loop-left.left i.1 in omega (arith, i.0, s, c.requires.digits)
 
 pub bounds-room-at : goal.bounds-room-at
 bounds-room-at c =
@@ -34,8 +34,8 @@ loop-left-preserved c =
       take-set-le (c.args.end - length (decimal c.args.n)) c.loop-left.room (c.loop-left.at - 1) b (omega (arith, i.0, m, d.0)) ∙ i.3,
     )
 
-pub overflow-sub-room : goal.overflow-sub-room
-overflow-sub-room c = let i = c.loop-left.invariant in let s = decimal_nonempty c.loop-left.left i.1 in omega (arith, i.0, s, c.requires.digits)
+pub overflow_sub-room : goal.overflow_sub-room
+overflow_sub-room c = let i = c.loop-left.invariant in let s = decimal_nonempty c.loop-left.left i.1 in omega (arith, i.0, s, c.requires.digits)
 
 pub bounds-room-at-2 : goal.bounds-room-at-2
 bounds-room-at-2 c =

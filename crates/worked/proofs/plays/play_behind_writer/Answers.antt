@@ -29,10 +29,10 @@ returns c =
                 c.read.result,
                 c.read.ensures,
                 (
-                  c.new_policy.result,
+                  c.new-policy.result,
                   c.begin.result,
                   c.begin.ensures,
-                  (c.new_policy.ensures.fresh, c.new_policy.ensures.state),
+                  (c.new-policy.ensures.fresh, c.new-policy.ensures.state),
                 ),
               ),
             ),

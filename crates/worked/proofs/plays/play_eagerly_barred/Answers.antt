@@ -27,10 +27,10 @@ returns c =
               c.read.result,
               c.read.ensures,
               (
-                c.new_policy.result,
+                c.new-policy.result,
                 c.begin.result,
                 c.begin.ensures,
-                (c.new_policy.ensures.fresh c.new-clock.ensures.fresh, ap held c.new_policy.ensures.holds ∙ c.new-clock.ensures.state),
+                (c.new-policy.ensures.fresh c.new-clock.ensures.fresh, ap held c.new-policy.ensures.holds ∙ c.new-clock.ensures.state),
               ),
             ),
           ),

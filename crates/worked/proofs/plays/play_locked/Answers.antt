@@ -17,10 +17,10 @@ returns c =
           c.begin-2.result,
           c.begin-2.ensures,
           (
-            c.new_policy.result,
+            c.new-policy.result,
             c.begin.result,
             c.begin.ensures,
-            (c.new_policy.ensures.fresh, c.new_policy.ensures.holds),
+            (c.new-policy.ensures.fresh, c.new-policy.ensures.holds),
           ),
         ),
       ),
