@@ -1,11 +1,11 @@
 -- The layer keeps the rules if the policy below does, move by move: f and g are the facts below, before and after.
-use Rattle.std.specs.Prelude.{◌≡◌, ℕ, ◌<◌, Bool, true, false, cond, not, ◌&&◌, ◌||◌, ◌≢◌, ◌⊎◌, nat_lt}
-use Rattle.std.proofs.Common.{sym, subst, inl, inr, arith}
+use Rattle.std.specs.Prelude.{◌≡◌, ℕ, ◌<◌, Bool, true, false, cond, ◌⊎◌, nat_lt}
+use Rattle.std.proofs.Common.{sym, subst, arith}
 use Rattle.std.proofs.lemmas.Bool.{lt-ltb, ltb-true, and_parts, not-true}
 use Rattle.policy.specs.Limits.{variables}
 use Rattle.policy.specs.Facts.{Facts, Proper, Touched}
 use Rattle.policy.specs.Moves.{Move, begin, read, write, read_refused, write_refused, commit, commit_refused, abort}
-use Rattle.policy.specs.Moves.{Keeps, Begun, HasRead, HasWritten, Committed, Ended, Refused, Unchanged, Beside, Passed, Spared, SameBars, Fenced, Near}
+use Rattle.policy.specs.Moves.{Keeps, Begun, HasRead, HasWritten, Committed, Ended, Beside, Passed, Spared, SameBars}
 use Rattle.policy.specs.Due.{due}
 use Rattle.eager.specs.Layer.{fenced, below_move}
 

@@ -1,5 +1,5 @@
 -- The eager layer: over any policy, a task that is behind may neither read nor write any more.
-use Rattle.std.specs.Prelude.{◌≡◌, ℕ, Bool, true, cond, nat_lt}
+use Rattle.std.specs.Prelude.{◌≡◌, Bool, true, cond, nat_lt}
 use Rattle.policy.specs.Limits.{variables}
 use Rattle.policy.specs.Facts.{Facts}
 use Rattle.policy.specs.Moves.{Move, begin, read, write, read_refused, write_refused, commit, commit_refused, abort}

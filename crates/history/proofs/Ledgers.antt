@@ -6,7 +6,7 @@ use mathlib.Core.List.Memᴰ
 use mathlib.Core.List.{Memᴰ}
 use mathlib.Core.Option.{Option, none, some}
 use Rattle.history.specs.Update.{at}
-use Rattle.history.specs.Transactions.{Access, got, put, Fate, unended, Transaction, Ledger, calls, nothing, opens, adds, ends, whole, note, begun, longer, over_with, grown, closed}
+use Rattle.history.specs.Transactions.{Access, got, put, Fate, unended, Transaction, Ledger, calls, nothing, opens, adds, ends, whole, note, longer, over_with, grown, closed}
 use Rattle.history.specs.Alone.{Touches}
 use Rattle.history.specs.Law.{Stood, just, earlier, OneMoment, HadTouched, Listed, Rival}
 use Rattle.history.proofs.Logic.{at_same, at_other, at_elim, no_some}

@@ -1,10 +1,9 @@
 -- No move lets two tasks lock one variable.
-use Rattle.std.specs.Prelude.{◌≡◌, ℕ, ◌<◌, Bool, true, false, not, ◌&&◌, ◌||◌, ◌⊎◌, ◌==◌, refl}
-use Rattle.std.proofs.Common.{sym, ◌∙◌, ap, inl, inr, arith}
-use Rattle.std.proofs.lemmas.Bool.{cases_Bool, both_ways, ltb-true, or_cases}
+use Rattle.std.specs.Prelude.{◌≡◌, ℕ, true, false, not, ◌&&◌, ◌⊎◌, ◌==◌}
+use Rattle.std.proofs.Common.{inl, inr, arith}
+use Rattle.std.proofs.lemmas.Bool.{cases_Bool}
 use Rattle.std.proofs.lemmas.Bool.Decides.{nat_tests}
 use Rattle.policy.specs.Limits.{tasks}
-use Rattle.policy.specs.Facts.{some_below}
 use Rattle.policy.proofs.SomeBelow.{some_below_all}
 use Rattle.transactions.specs.Sets.{Sets, Sound, begun, ended, has_read, has_written}
 use Rattle.lock.specs.Locks.{locked, Apart, locked_by_other}

@@ -1,5 +1,5 @@
 -- Two-phase locking: a variable is locked by the task that has read or written it, until the task ends.
-use Rattle.std.specs.Prelude.{◌≡◌, ℕ, Bool, true, false, not, ◌&&◌, ◌||◌, ◌==◌}
+use Rattle.std.specs.Prelude.{◌≡◌, ℕ, Bool, false, not, ◌&&◌, ◌||◌, ◌==◌}
 use Rattle.policy.specs.Facts.{Facts}
 use Rattle.transactions.specs.Sets.{Sets, some_other}
 

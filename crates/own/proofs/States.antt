@@ -1,5 +1,5 @@
 -- What raised flags make of the state.
-use Rattle.std.proofs.Common.{◌≡◌, ℕ, ◌<◌, Bool, true, false, ◌&&◌, List, refl, arith}
+use Rattle.std.proofs.Common.{◌≡◌, ℕ, ◌<◌, Bool, true, false, ◌&&◌, List, arith}
 use Rattle.std.proofs.lemmas.Bool.{and_parts}
 use Rattle.policy.specs.Limits.{tasks, variables}
 use Rattle.policy.specs.Moves.{commit, abort}

@@ -1,15 +1,15 @@
 -- An ownership policy keeps the rules, move by move.
-use Rattle.std.specs.Prelude.{◌≡◌, ℕ, ◌<◌, Bool, true, false, not, ◌&&◌, ◌||◌, ◌≢◌, ◌⊎◌, nat_eq, nat_lt, refl}
+use Rattle.std.specs.Prelude.{◌≡◌, ℕ, ◌<◌, true, false, ◌&&◌, ◌≢◌, ◌⊎◌, nat_eq, nat_lt, refl}
 use Rattle.std.proofs.Common.{inl, inr, arith}
-use Rattle.std.proofs.lemmas.Bool.{ne_eqb, both_ways, lt-ltb, and_from, and_parts, or_cases}
+use Rattle.std.proofs.lemmas.Bool.{ne_eqb, lt-ltb, and_from, and_parts, or_cases}
 use Rattle.std.proofs.lemmas.Bool.Decides.{nat_tests}
 use Rattle.policy.specs.Limits.{variables}
-use Rattle.policy.specs.Facts.{Touched, may_read, may_write, may_commit}
+use Rattle.policy.specs.Facts.{may_read, may_write, may_commit}
 use Rattle.policy.specs.Moves.{Move, begin, read, write, read_refused, write_refused, commit, commit_refused, abort}
-use Rattle.policy.specs.Moves.{Keeps, Begun, HasRead, HasWritten, Committed, Ended, Unchanged, Beside, Passed, Spared, SameSets, Fenced, Near}
+use Rattle.policy.specs.Moves.{Keeps, Begun, HasRead, HasWritten, Committed, Ended, Unchanged, Beside, Passed, Spared}
 use Rattle.policy.specs.Answers.{fit_task, fit_access, fit_begin}
 use Rattle.policy.proofs.SomeBelow.{some_below_witness, some_below_member}
-use Rattle.transactions.specs.Sets.{Sets, Sound, begun, ended, has_read, has_written, conflict}
+use Rattle.transactions.specs.Sets.{Sound, begun, ended, has_written, conflict}
 use Rattle.policy.specs.Due.{due}
 use Rattle.transactions.proofs.Others.{same_bar, fewer_bars}
 use Rattle.own.specs.Ownership.{State, lags, owned_by_other, facts_of, next}

@@ -1,5 +1,5 @@
 -- DSTM with invisible reads: a task owns what it has written, and a commit makes the readers of what it wrote fall behind.
-use Rattle.std.specs.Prelude.{◌≡◌, ℕ, Bool, true, false, not, ◌&&◌, ◌||◌, List, ◌==◌, nat_lt, slice_index_or}
+use Rattle.std.specs.Prelude.{◌≡◌, ℕ, Bool, false, not, ◌&&◌, ◌||◌, List, ◌==◌, nat_lt, slice_index_or}
 use Rattle.policy.specs.Limits.{variables}
 use Rattle.policy.specs.Facts.{Facts}
 use Rattle.policy.specs.Moves.{Move, begin, read, write, read_refused, write_refused, commit, commit_refused, abort}

@@ -1,9 +1,9 @@
 -- Adding one text after another.
-use Rattle.std.proofs.Common.{◌≡◌, ℕ, ◌+◌, ◌-◌, ◌<◌, ◌≤◌, true, List, [], ◌∷◌, ◌++◌, length, get_or, take, set, ℤ, pos, negsuc, nat_abs, Ok, Err, decimal, Result, sym, refl, ap, ◌∙◌, subst, append_assoc, append-nil, add-zero, arith, length-append, length-take}
+use Rattle.std.proofs.Common.{◌≡◌, ℕ, ◌+◌, ◌-◌, ◌<◌, ◌≤◌, true, List, [], ◌∷◌, ◌++◌, length, take, set, ℤ, pos, negsuc, nat_abs, Ok, Err, decimal, Result, sym, refl, ap, ◌∙◌, subst, append_assoc, arith, length-append, length-take}
 use borrow.Rule.Slice.PartMut.{put_mid, post_of}
 use lib.Signed.{lt_z}
 use Rattle.std.specs.Fmt.{signed_decimal}
-use Rattle.std.proofs.lemmas.List.{take_more, take_more_set, take_at}
+use Rattle.std.proofs.lemmas.List.{take_more_set, take_at}
 use Rattle.play.specs.declared.outcome.NoRoom.{NoRoom}
 use Rattle.play.specs.Room.{Adds}
 

@@ -1,8 +1,8 @@
 -- A buffer with its output in front and zeros behind.
-use Rattle.std.proofs.Common.{◌≡◌, ℕ, ◌+◌, ◌-◌, ◌<◌, ◌≤◌, true, List, [], ◌∷◌, ◌++◌, length, take, set, replicate, is_ok, Ok, Err, Result, sym, refl, ap, ◌∙◌, subst, append_assoc, append-nil, arith, length-take}
+use Rattle.std.proofs.Common.{◌≡◌, ℕ, ◌+◌, ◌-◌, ◌<◌, ◌≤◌, List, [], ◌∷◌, ◌++◌, length, take, set, replicate, Ok, Err, sym, ap, ◌∙◌, subst, append_assoc, arith, length-take}
 use Rattle.std.proofs.lemmas.List.{take_more_set, replicate_more, take_at}
 use Rattle.play.specs.declared.outcome.NoRoom.{NoRoom}
-use Rattle.play.specs.Room.{Within, Fronts}
+use Rattle.play.specs.Room.{Fronts}
 use Rattle.play.specs.Output.{PrintsOf, command_lines, Prints, Filled}
 
 -- one more zero

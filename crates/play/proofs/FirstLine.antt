@@ -1,5 +1,5 @@
 -- From the first line of a text to what is printed of all its lines.
-use Rattle.std.proofs.Common.{◌≡◌, ℕ, ◌+◌, ◌*◌, ◌<◌, ◌≤◌, min, Bool, true, false, cond, eqb, ltb, List, [], ◌∷◌, ◌++◌, length, take, Ok, Err, Result, sym, refl, ap, ◌∙◌, subst, arith, ltb-false}
+use Rattle.std.proofs.Common.{◌≡◌, ℕ, ◌+◌, ◌*◌, ◌<◌, ◌≤◌, Bool, true, false, cond, eqb, ltb, List, [], ◌∷◌, length, take, Ok, Err, Result, sym, refl, ap, ◌∙◌, subst, arith, ltb-false}
 use Rattle.schedule.specs.Pieces.{line_feed, longer, lines}
 use Rattle.schedule.specs.Texts.{longest_text, named_by, header_of}
 use Rattle.schedule.specs.Faults.{fault_line, fault_number}

@@ -1,5 +1,5 @@
 -- A line is no command and changes nothing, or it is one call on the table.
-use Rattle.std.proofs.Common.{◌≡◌, ℕ, Bool, List, Ok, Err, Result, sym, refl, ap, subst, arith}
+use Rattle.std.proofs.Common.{◌≡◌, ℕ, Bool, List, Ok, Err, Result, sym, refl, subst, arith}
 use mathlib.Core.Option.{Option, none, some}
 use Rattle.schedule.specs.Grammar.{parsed}
 use Rattle.schedule.specs.Texts.{command_at}
@@ -13,7 +13,7 @@ use Rattle.policy.specs.Moves.{Move}
 use Rattle.history.specs.Calls.{Refusal}
 use Rattle.history.specs.Steps.{State}
 use Rattle.history.specs.Runs.{Sound}
-use Rattle.table.specs.Faults.{refusal_of, number_or_unfit, numbered}
+use Rattle.table.specs.Faults.{refusal_of, number_or_unfit}
 use Rattle.table.specs.Views.{refusing, Makes, Stepped}
 use Rattle.table.specs.declared.fault.TableFault.{TableFault}
 use Rattle.play.specs.declared.outcome.Outcome.{Outcome}

@@ -1,5 +1,5 @@
 -- When a move may be made: what its call finds in the facts before it.
-use Rattle.std.specs.Prelude.{ℕ, Bool, not, ◌&&◌}
+use Rattle.std.specs.Prelude.{Bool, not, ◌&&◌}
 use Rattle.policy.specs.Facts.{Facts, may_read, may_write, may_commit}
 use Rattle.policy.specs.Moves.{Move, begin, read, write, read_refused, write_refused, commit, commit_refused, abort}
 use Rattle.policy.specs.Answers.{fit_task, fit_access, fit_begin}

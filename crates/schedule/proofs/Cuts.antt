@@ -1,9 +1,9 @@
 -- A text cut at the first place of a byte, and its fields and lines.
-use Rattle.std.proofs.Common.{◌≡◌, ℕ, zero, suc, ◌+◌, ◌-◌, ◌<◌, Bool, true, false, cond, eqb, List, [], ◌∷◌, ◌++◌, length, get_or, take, drop, Some, None, Option, sym, refl, ap, ◌∙◌, subst, arith, Bor}
+use Rattle.std.proofs.Common.{◌≡◌, ℕ, suc, ◌+◌, ◌-◌, ◌<◌, false, eqb, List, [], ◌∷◌, ◌++◌, length, get_or, take, drop, Some, None, Option, sym, refl, ap, ◌∙◌, arith, Bor}
 use native.Mathlib.Nat.{sub-zero}
 use Rattle.std.proofs.lemmas.List.{take_rest, drop_more, take-append-drop, length-take-le, length-append, get_or-take}
 use Rattle.std.proofs.lemmas.Bool.Decides.{nat_tests}
-use Rattle.schedule.specs.Pieces.{space, line_feed, longer, fields, lines, Clear, Cut, fields_left, lines_left, bytes_left}
+use Rattle.schedule.specs.Pieces.{space, line_feed, fields, lines, Clear, Cut, fields_left, lines_left, bytes_left}
 
 -- cut at index i, the first that has the byte b; the parts are written as slices give them
 pub cut_at : (s : List ℕ) (b i : ℕ) → i < length s → get_or s i 0 ≡ b → ((k : ℕ) → k < i → get_or s k 0 ≡ b → ⊥)

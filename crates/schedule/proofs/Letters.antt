@@ -1,13 +1,13 @@
 -- A line by its letter: what its fields are, and what command they make.
-use Rattle.std.proofs.Common.{◌≡◌, ℕ, zero, suc, ◌-◌, ◌<◌, ◌≤◌, Bool, true, false, cond, eqb, ◌⊎◌, List, [], ◌∷◌, length, get_or, take, drop, ℤ, Some, None, Ok, Err, Option, Result, sym, refl, ap, ◌∙◌, inl, inr, arith, eqb-true}
-use Rattle.std.proofs.lemmas.List.{take_rest, nil_from_length}
+use Rattle.std.proofs.Common.{◌≡◌, ℕ, ◌-◌, ◌≤◌, Bool, true, false, cond, eqb, ◌⊎◌, List, [], ◌∷◌, length, get_or, take, drop, ℤ, Some, None, Ok, Err, Option, sym, refl, ap, inl, inr, arith, eqb-true}
+use Rattle.std.proofs.lemmas.List.{take_rest}
 use Rattle.std.proofs.lemmas.Bool.Decides.{nat_tests}
 use Rattle.std.specs.Option.{ok_or}
 use Rattle.schedule.specs.declared.command.Command.TheVariants.{Write}
 use Rattle.schedule.specs.declared.command.Misfit.{Misfit}
 use Rattle.schedule.specs.Pieces.{space, longer, fields}
-use Rattle.schedule.specs.Numbers.{number_field, value_field, highest_index}
-use Rattle.schedule.specs.Fields.{Takes, read_first, others}
+use Rattle.schedule.specs.Numbers.{number_field, highest_index}
+use Rattle.schedule.specs.Fields.{Takes}
 use Rattle.schedule.specs.Grammar.{no_letter, no_task, no_variable, lettered, command_of, parsed, last_value, write_of}
 
 truth : (b : Bool) → (b ≡ true) ⊎ (b ≡ false)

@@ -1,5 +1,5 @@
 -- The law of parsing: a line is taken as a command exactly if it is what is written of that command.
-use Rattle.std.proofs.Common.{◌≡◌, ℕ, zero, suc, ◌^◌, ◌<◌, ◌≤◌, Bool, true, false, cond, eqb, List, [], ◌∷◌, ◌++◌, ℤ, Some, None, Ok, Err, decimal, Option, Result, sym, refl, ap, ◌∙◌, subst, arith, eqb-true}
+use Rattle.std.proofs.Common.{◌≡◌, ℕ, ◌≤◌, Bool, true, false, cond, eqb, List, [], ◌∷◌, ◌++◌, ℤ, Some, None, Ok, Err, decimal, Option, Result, sym, refl, ap, ◌∙◌, subst, arith, eqb-true}
 use Rattle.std.proofs.lemmas.List.{append-nil}
 use Rattle.std.specs.Fmt.{signed_decimal}
 use Rattle.schedule.specs.declared.command.Command.{Command}
@@ -8,7 +8,7 @@ use Rattle.schedule.specs.declared.command.Misfit.{Misfit}
 use Rattle.schedule.specs.Pieces.{space, longer, fields, Clear}
 use Rattle.schedule.specs.Numbers.{number_field, value_field, highest_index}
 use Rattle.schedule.specs.Grammar.{no_letter, no_task, no_variable, no_value, given, next, ends, last, made, last_task, last_variable, last_value, read_of, write_of, lettered, command_of, parsed}
-use Rattle.schedule.specs.Written.{with_task, written, InValue, InRange}
+use Rattle.schedule.specs.Written.{with_task, written, InRange}
 use Rattle.schedule.proofs.Cuts.{fields_whole, fields_before}
 use Rattle.schedule.proofs.Numerals.{number_written, number_reads, value_written, value_reads, decimal_clear, signed_clear}
 

@@ -1,7 +1,7 @@
 -- What a reader of lines hands out, and that the lines are the text.
-use Rattle.std.specs.Prelude.{◌≡◌, ℕ, ◌+◌, ◌<◌, ◌≤◌, Bool, true, cond, List, [], ◌∷◌, ◌++◌, length, Some, None, Option, ◌==◌}
+use Rattle.std.specs.Prelude.{◌≡◌, ℕ, ◌+◌, Bool, true, cond, List, [], ◌∷◌, ◌++◌, Some, None, Option, ◌==◌}
 use Rattle.std.specs.List.{flat_map, AllByRecursion as All}
-use Rattle.schedule.specs.Pieces.{line_feed, lines, Clear}
+use Rattle.schedule.specs.Pieces.{line_feed, Clear}
 use Rattle.schedule.specs.declared.lines.Line.{Line}
 
 -- from n lines read and `before` to come, the next line with its number, to `after`; or the end

@@ -1,7 +1,6 @@
 -- A whole text: its first line, its commands, and all that is wrong with it.
 use Rattle.std.specs.Prelude.{ℕ, ◌+◌, cond, List, [], ◌∷◌, ◌++◌, length, Ok, Err, Result, nat_lt}
 use Rattle.std.specs.Option.{ok_or}
-use Rattle.std.specs.declared.convert.Infallible.{Infallible}
 use Rattle.schedule.specs.declared.choice.Choice.{Choice}
 use Rattle.schedule.specs.declared.command.Command.{Command}
 use Rattle.schedule.specs.declared.command.Misfit.{Misfit}

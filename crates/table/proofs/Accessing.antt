@@ -1,7 +1,7 @@
 -- Reads and writes that the policy was asked for.
-use Rattle.std.proofs.Common.{◌≡◌, ℕ, ◌<◌, Bool, true, false, List, [], ◌∷◌, length, get_or, set, ℤ, pos, Ok, Err, sym, refl, ap, ◌∙◌, subst, arith}
-use mathlib.Core.Option.{Option, none, some}
-use Rattle.policy.specs.Limits.{tasks, variables}
+use Rattle.std.proofs.Common.{◌≡◌, ℕ, ◌<◌, Bool, true, false, List, [], ◌∷◌, length, get_or, set, ℤ, Ok, Err, sym, refl, ap, subst, arith}
+use mathlib.Core.Option.{none}
+use Rattle.policy.specs.Limits.{tasks}
 use Rattle.policy.specs.Facts.{Facts, may_read, may_write}
 use Rattle.policy.specs.Moves.{Move, read_refused, write_refused}
 use Rattle.policy.specs.Moves.{read as reads-variable, write as writes-variable}
@@ -11,14 +11,14 @@ use Rattle.policy.specs.declared.PolicyFault.TheVariants.{ReadBarred, WriteBarre
 use Rattle.policy.specs.declared.Granted.{Granted}
 use Rattle.history.specs.Calls.{Call, read, write, single, read_barred, write_barred, by_policy, done, value, refused}
 use Rattle.history.specs.Answers.{must_be_active, wrong, look}
-use Rattle.history.specs.Steps.{Step, ReadsFor, none_made, made, answer}
+use Rattle.history.specs.Steps.{Step, none_made, made}
 use Rattle.history.specs.Runs.{Sound}
 use Rattle.history.proofs.Outcomes.{is_active}
 use Rattle.table.specs.Faults.{refusal_of, refused_single}
-use Rattle.table.specs.Views.{stage_of, pending_in, state, refusing, Makes}
+use Rattle.table.specs.Views.{stage_of, state, refusing, Makes}
 use Rattle.table.specs.Checks.{passed, with_pending, Whole}
 use Rattle.table.specs.declared.stage.Stage.{Stage}
-use Rattle.table.specs.declared.stage.Stage.TheVariants.{Idle, Open, Broken}
+use Rattle.table.specs.declared.stage.Stage.TheVariants.{Idle, Broken}
 use Rattle.table.proofs.Checking.{passed_ok, access_right}
 use Rattle.table.proofs.Granting.{answer_ok, answer_err, fit_access_at}
 use Rattle.table.proofs.Stages.{put_set, pending_stage, pending_set}

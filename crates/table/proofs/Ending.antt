@@ -1,8 +1,8 @@
 -- Commits and aborts that the policy was asked for.
-use Rattle.std.proofs.Common.{◌≡◌, ℕ, ◌<◌, Bool, true, false, ltb, List, [], ◌∷◌, length, get_or, set, ℤ, pos, Ok, Err, Result, sym, refl, ap, ◌∙◌, subst, arith}
-use mathlib.Core.Option.{Option, none, some}
+use Rattle.std.proofs.Common.{◌≡◌, ℕ, ◌<◌, Bool, true, false, ltb, List, length, get_or, set, ℤ, pos, Ok, Err, Result, sym, refl, ap, ◌∙◌, subst, arith}
+use mathlib.Core.Option.{none, some}
 use Rattle.std.proofs.lemmas.List.{set-get_or}
-use Rattle.policy.specs.Limits.{tasks, variables}
+use Rattle.policy.specs.Limits.{tasks}
 use Rattle.policy.specs.Facts.{Facts, may_commit}
 use Rattle.policy.specs.Moves.{Move, commit_refused}
 use Rattle.policy.specs.Moves.{commit as commits, abort as aborts}
@@ -10,9 +10,9 @@ use Rattle.policy.specs.Answers.{Moved, granted, commit_answer, abort_answer, fi
 use Rattle.policy.specs.declared.PolicyFault.{PolicyFault}
 use Rattle.policy.specs.declared.PolicyFault.TheVariants.{Unfit, CommitRefused}
 use Rattle.policy.specs.declared.Granted.{Granted}
-use Rattle.history.specs.Calls.{commit, abort, Wrong, Untimely, commit_barred, by_policy, at_wrong_time, done, refused}
+use Rattle.history.specs.Calls.{commit, abort, Untimely, commit_barred, by_policy, done, refused}
 use Rattle.history.specs.Answers.{Stage as History-stage, idle, active, broken, must_be_active, must_not_be_idle, look}
-use Rattle.history.specs.Steps.{Step, Chain, abort_moves, stage_after}
+use Rattle.history.specs.Steps.{Step, Chain, abort_moves}
 use Rattle.history.specs.Runs.{Sound, in-transaction}
 use Rattle.table.specs.Faults.{refusal_of, refused_single}
 use Rattle.table.specs.Views.{stage_of, pending_in, state, refusing, Makes}

@@ -1,12 +1,12 @@
 -- What a policy's answer tells of the facts that it was decided by.
-use Rattle.std.proofs.Common.{◌≡◌, ℕ, ◌<◌, Bool, true, false, cond, ◌&&◌, ltb, Ok, Err, Result, sym, refl, ap, ◌∙◌, arith}
-use mathlib.Core.Option.{Option, none, some}
+use Rattle.std.proofs.Common.{◌≡◌, ℕ, ◌<◌, Bool, true, false, ltb, Ok, Err, refl, ap, ◌∙◌, arith}
+use mathlib.Core.Option.{none}
 use Rattle.policy.specs.Limits.{tasks, variables}
 use Rattle.policy.specs.Facts.{Facts}
-use Rattle.policy.specs.Answers.{answer, granted, fit_task, fit_access}
+use Rattle.policy.specs.Answers.{answer, fit_task, fit_access}
 use Rattle.policy.specs.declared.PolicyFault.{PolicyFault}
 use Rattle.policy.specs.declared.Granted.{Granted}
-use Rattle.history.specs.Answers.{Stage, idle, active, broken, must_be_active}
+use Rattle.history.specs.Answers.{Stage, must_be_active}
 use Rattle.history.specs.Runs.{in-transaction}
 use Rattle.history.proofs.Outcomes.{is_active}
 

@@ -1,12 +1,11 @@
 -- The reads of a list, place by place.
-use Rattle.std.proofs.Common.{◌≡◌, ℕ, suc, ◌+◌, ◌<◌, ◌≤◌, Bool, true, false, cond, List, [], ◌∷◌, ◌++◌, map, length, get_or, take, drop, set, ℤ, pos, Ok, Err, Result, sym, refl, ap, ◌∙◌, subst, add-one, arith}
+use Rattle.std.proofs.Common.{◌≡◌, ℕ, ◌+◌, ◌<◌, Bool, true, false, cond, List, [], ◌∷◌, ◌++◌, map, length, get_or, take, set, ℤ, pos, Err, sym, refl, ap, ◌∙◌, subst, add-one, arith}
 use Rattle.std.proofs.lemmas.List.{take_all, take_more, take_more_set, map_more}
 use Rattle.policy.specs.Limits.{variables}
 use Rattle.policy.specs.Facts.{Facts, Proper, may_read}
 use Rattle.policy.specs.Moves.{Move, Keeps, read_refused}
 use Rattle.policy.specs.Moves.{read as reads-variable}
 use Rattle.policy.specs.Answers.{fit_access, read_answer, Moved}
-use Rattle.policy.specs.declared.Granted.{Granted}
 use Rattle.policy.specs.declared.PolicyFault.{PolicyFault}
 use Rattle.policy.specs.declared.PolicyFault.TheVariants.{ReadBarred}
 use Rattle.history.proofs.Collecting.{Collecting, nothing_collected, so_far, collect_one}

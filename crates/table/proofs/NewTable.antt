@@ -3,7 +3,6 @@ use Rattle.std.proofs.Common.{◌≡◌, ℕ, zero, suc, Bool, List, get_or, rep
 use Rattle.policy.specs.Limits.{tasks, variables}
 use Rattle.policy.specs.Facts.{Facts, Fresh, Proper}
 use Rattle.policy.specs.Moves.{Move, Keeps}
-use Rattle.history.specs.Answers.{idle}
 use Rattle.history.specs.Steps.{State}
 use Rattle.history.specs.Transactions.{History}
 use Rattle.history.specs.Runs.{Sound, New, Leads, none_yet, then}

@@ -1,5 +1,5 @@
 -- A snapshot as a step of the histories' runs.
-use Rattle.std.proofs.Common.{◌≡◌, ℕ, ◌+◌, ◌<◌, Bool, true, List, ◌∷◌, ◌++◌, map, length, get_or, take, drop, ℤ, Err, sym, refl, ap, ◌∙◌, subst, arith}
+use Rattle.std.proofs.Common.{◌≡◌, ℕ, ◌+◌, Bool, true, List, ◌∷◌, ◌++◌, map, length, get_or, take, drop, ℤ, Err, sym, refl, ◌∙◌, subst, arith}
 use mathlib.Core.Option.{none, some}
 use Rattle.std.proofs.lemmas.List.{length-take-le}
 use Rattle.policy.specs.Facts.{Facts, Proper, may_commit}

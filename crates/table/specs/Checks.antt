@@ -2,7 +2,7 @@
 use Rattle.std.specs.Prelude.{◌≡◌, ℕ, List, length, ℤ, Ok, Err, Result, nat_lt, slice_index_or, slice_set}
 use Rattle.std.proofs.Math.Option.{Option, none, some}
 use Rattle.policy.specs.Limits.{tasks, variables}
-use Rattle.history.specs.Calls.{Wrong, no_task, no_variable, single, Untimely}
+use Rattle.history.specs.Calls.{Wrong, no_task, Untimely}
 use Rattle.history.specs.Answers.{unless, must_be_idle, must_be_active, must_not_be_idle}
 use Rattle.table.specs.Faults.{wrong_fault, untimely_fault}
 use Rattle.table.specs.Views.{stage_of}

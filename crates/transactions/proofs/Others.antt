@@ -1,5 +1,5 @@
 -- Bars that come from what other tasks have: `on` says that the barred task t is open.
-use Rattle.std.proofs.Common.{◌≡◌, ℕ, ◌<◌, Bool, true, false, not, ◌&&◌, eqb, ◌≢◌}
+use Rattle.std.proofs.Common.{◌≡◌, ℕ, ◌<◌, Bool, true, not, ◌&&◌, eqb, ◌≢◌}
 use Rattle.std.proofs.lemmas.Bool.{and_parts, and_from, not-true, eqb-false}
 use Rattle.policy.specs.Limits.{tasks}
 use Rattle.policy.proofs.SomeBelow.{some_below_witness, some_below_mono, some_below_same}

@@ -1,10 +1,10 @@
 -- What holds of the sets of all transactions.
-use Rattle.std.proofs.Common.{◌≡◌, ℕ, ◌<◌, Bool, true, false, ltb, ◌⊎◌, List, get_or, Some, None, Option, refl, inl, inr}
+use Rattle.std.proofs.Common.{◌≡◌, ℕ, ◌<◌, true, false, ltb, ◌⊎◌, List, Some, None, Option, refl, inl, inr}
 use Rattle.std.proofs.lemmas.Bool.{cases_Bool, ltb-true, both_ways}
 use Rattle.policy.specs.Limits.{tasks, variables}
 use Rattle.varset.proofs.Below.{member_below}
-use Rattle.transactions.specs.Sets.{Sets, Sound}
-use Rattle.transactions.specs.Rows.{is_there, reads_in, writes_in, row, sets_of, sets}
+use Rattle.transactions.specs.Sets.{Sound}
+use Rattle.transactions.specs.Rows.{is_there, reads_in, writes_in, row, sets}
 use Rattle.transactions.specs.declared.Transaction.{Transaction}
 use Rattle.transactions.specs.declared.Transactions.{Transactions}
 

@@ -1,5 +1,5 @@
 -- What a set of variables means: which variables are in it.
-use Rattle.std.specs.Prelude.{◌≡◌, ℕ, ◌/◌, ◌%◌, ◌^◌, Bool, true, false, ◌&&◌, ◌||◌, ◌==◌, nat_lt}
+use Rattle.std.specs.Prelude.{◌≡◌, ℕ, ◌/◌, ◌%◌, ◌^◌, Bool, false, ◌&&◌, ◌||◌, ◌==◌, nat_lt}
 use Rattle.policy.specs.Limits.{variables}
 use Rattle.varset.specs.declared.VarSet.{VarSet}
 

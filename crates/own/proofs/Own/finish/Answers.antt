@@ -1,4 +1,4 @@
-use Rattle.std.proofs.Common.{◌≡◌, ◌∙◌}
+use Rattle.std.proofs.Common.{◌∙◌}
 use Rattle.transactions.specs.Rows.{sets}
 use Rattle.own.proofs.States.{state_committed}
 use Rattle.own.proofs.Own.finish.Goals as goal

@@ -1,4 +1,4 @@
-use Rattle.std.proofs.Common.{◌≡◌, true, false, ltb, arith}
+use Rattle.std.proofs.Common.{◌≡◌, true, ltb, arith}
 use Rattle.std.proofs.lemmas.Bool.{lt-ltb}
 use Rattle.policy.specs.Limits.{tasks}
 use Rattle.transactions.specs.Rows.{sets}

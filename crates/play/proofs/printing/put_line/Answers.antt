@@ -1,7 +1,7 @@
-use Rattle.std.proofs.Common.{◌+◌, ◌≤◌, List, [], ◌∷◌, ◌++◌, decimal, ◌∙◌, arith}
+use Rattle.std.proofs.Common.{◌+◌, ◌≤◌, [], ◌∷◌, ◌++◌, decimal, ◌∙◌, arith}
 use Rattle.std.proofs.lemmas.Result.{err_from_is_err_and}
 use Rattle.schedule.specs.Pieces.{line_feed}
-use Rattle.play.specs.Printed.{reply_text, longest_reply, longest_line}
+use Rattle.play.specs.Printed.{reply_text, longest_line}
 use Rattle.play.proofs.Adding.{adds_then, adds_refused}
 use Rattle.play.proofs.Lengths.{number_short, within, within_refused, line_within}
 use Rattle.play.proofs.printing.put_line.Goals as goal

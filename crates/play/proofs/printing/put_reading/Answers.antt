@@ -1,4 +1,4 @@
-use Rattle.std.proofs.Common.{◌≡◌, codes, decimal, sym, ap, arith, w32, to_z, of_z, rules}
+use Rattle.std.proofs.Common.{◌≡◌, codes, sym, ap, arith, w32, to_z, of_z, rules}
 use Rattle.std.specs.Fmt.{signed_decimal}
 use Rattle.std.proofs.lemmas.Result.{err_from_is_err_and}
 use Rattle.play.specs.Printed.{longest_reply, value_text}

@@ -1,5 +1,4 @@
 use Rattle.std.proofs.Common.{codes, decimal, arith}
-use Rattle.std.specs.Fmt.{signed_decimal}
 use Rattle.std.proofs.lemmas.Result.{err_from_is_err_and}
 use Rattle.play.specs.Printed.{longest_reply, refused_text}
 use Rattle.play.proofs.Adding.{adds_then, adds_refused}

@@ -1,4 +1,4 @@
-use Rattle.std.proofs.Common.{◌≡◌, ℕ, List, [], ◌∷◌, ℤ, nat_abs, decimal, sym, ap, ◌∙◌, w32, to_z, of_z, rules}
+use Rattle.std.proofs.Common.{◌≡◌, ℕ, List, [], ◌∷◌, nat_abs, decimal, sym, ap, ◌∙◌, w32, to_z, of_z, rules}
 use Rattle.std.specs.Fmt.{signed_decimal}
 use Rattle.play.proofs.Adding.{adds_then, adds_is, signed_below}
 use Rattle.play.proofs.room.put_value.Goals as goal

@@ -1,5 +1,5 @@
 -- The bytes from `used` on that were passed are zeros.
-use Rattle.std.proofs.Common.{◌≡◌, ◌-◌, ◌≤◌, ◌++◌, take, replicate}
+use Rattle.std.proofs.Common.{◌≡◌, ◌-◌, ◌++◌, take, replicate}
 use Rattle.play.proofs.texts.clear_from.Given as goal
 
 abbrev pub invariant-loop-i : goal.invariant-loop-i

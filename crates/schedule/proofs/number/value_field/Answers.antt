@@ -1,4 +1,4 @@
-use Rattle.std.proofs.Common.{◌≡◌, ◌<◌, length, get_or, sym, ◌∙◌, rules}
+use Rattle.std.proofs.Common.{sym, ◌∙◌, rules}
 use Rattle.schedule.proofs.Sums.{after_minus}
 use Rattle.schedule.proofs.number.value_field.Goals as goal
 

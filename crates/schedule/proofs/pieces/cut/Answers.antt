@@ -1,4 +1,4 @@
-use Rattle.std.proofs.Common.{arith, rules}
+use Rattle.std.proofs.Common.{rules}
 use Rattle.schedule.proofs.Cuts.{cut_at}
 use Rattle.schedule.proofs.pieces.cut.Goals as goal
 

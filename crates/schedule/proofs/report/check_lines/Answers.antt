@@ -1,4 +1,4 @@
-use Rattle.std.proofs.Common.{◌+◌, length, sym, ap, ◌∙◌, arith}
+use Rattle.std.proofs.Common.{length, sym, ap, ◌∙◌, arith}
 use Rattle.schedule.proofs.Reports.{noted}
 use Rattle.schedule.proofs.report.check_lines.Goals as goal
 

@@ -1,5 +1,4 @@
-use Rattle.std.proofs.Common.{◌≡◌, ◌≤◌, length, get_or, sym, arith, rules}
-use mathlib.Core.Option.{none}
+use Rattle.std.proofs.Common.{◌≤◌, length, get_or, sym, arith}
 use Rattle.std.proofs.lemmas.List.{set_past}
 use Rattle.std.proofs.lemmas.Result.{err_from_is_err_and}
 use Rattle.policy.specs.Limits.{tasks}

@@ -1,4 +1,4 @@
-use Rattle.std.proofs.Common.{◌≡◌, sym, ap, ◌∙◌, arith, rules}
+use Rattle.std.proofs.Common.{sym, ap, ◌∙◌, arith, rules}
 use mathlib.Core.Option.{Option, none}
 use Rattle.history.specs.Calls.{Wrong}
 use Rattle.table.specs.Checks.{passed}

@@ -1,4 +1,4 @@
-use Rattle.std.proofs.Common.{◌≡◌, ◌<◌, arith, rules}
+use Rattle.std.proofs.Common.{◌≡◌, ◌<◌, arith}
 use Rattle.policy.specs.Limits.{tasks}
 use Rattle.table.proofs.Clearing.{Cleared, cleared_none, cleared_more, cleared_all}
 use Rattle.table.proofs.making.abort_all.Goals as goal

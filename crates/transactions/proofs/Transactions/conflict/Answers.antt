@@ -1,4 +1,4 @@
-use Rattle.std.proofs.Common.{◌≡◌, ◌&&◌, ◌∙◌}
+use Rattle.std.proofs.Common.{◌∙◌}
 use Rattle.policy.specs.Limits.{variables}
 use Rattle.policy.proofs.SomeBelow.{some_below_same}
 use Rattle.transactions.proofs.Transactions.conflict.Goals as goal

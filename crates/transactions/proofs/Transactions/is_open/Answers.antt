@@ -1,4 +1,4 @@
-use Rattle.std.proofs.Common.{◌≡◌, is_some, Some, None, Option, sym, refl, ap, ◌∙◌}
+use Rattle.std.proofs.Common.{◌≡◌, is_some, Some, None, Option, refl, ap, ◌∙◌}
 use Rattle.transactions.specs.Rows.{sets, is_there}
 use Rattle.transactions.specs.declared.Transaction.{Transaction}
 use Rattle.transactions.proofs.Puts.{there_fit}

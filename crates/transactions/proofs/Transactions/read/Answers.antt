@@ -1,5 +1,4 @@
-use Rattle.std.proofs.Common.{◌≡◌, true, false, sym, refl, ◌∙◌}
-use Rattle.varset.specs.Members.{member}
+use Rattle.std.proofs.Common.{sym, refl, ◌∙◌}
 use Rattle.transactions.specs.Rows.{sets}
 use Rattle.transactions.proofs.Puts.{put_has_read, none_has_read, own_has_read}
 use Rattle.transactions.proofs.Transactions.read.Goals as goal

@@ -1,4 +1,4 @@
-use Rattle.std.proofs.Common.{◌≡◌, sym, ap, ◌∙◌}
+use Rattle.std.proofs.Common.{sym, ap, ◌∙◌}
 use Rattle.transactions.specs.Rows.{sets, reads_in}
 use Rattle.transactions.proofs.Transactions.read_set.Goals as goal
 

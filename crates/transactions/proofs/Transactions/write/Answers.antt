@@ -1,4 +1,4 @@
-use Rattle.std.proofs.Common.{◌≡◌, sym, refl, ◌∙◌}
+use Rattle.std.proofs.Common.{sym, refl, ◌∙◌}
 use Rattle.transactions.specs.Rows.{sets}
 use Rattle.transactions.proofs.Puts.{put_has_written, none_has_written}
 use Rattle.transactions.proofs.Transactions.write.Goals as goal

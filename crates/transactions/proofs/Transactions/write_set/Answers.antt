@@ -1,4 +1,4 @@
-use Rattle.std.proofs.Common.{◌≡◌, sym, ap, ◌∙◌}
+use Rattle.std.proofs.Common.{sym, ap, ◌∙◌}
 use Rattle.transactions.specs.Rows.{sets, writes_in}
 use Rattle.transactions.proofs.Transactions.write_set.Goals as goal
 

@@ -1,4 +1,4 @@
-use Rattle.std.proofs.Common.{◌≡◌, sym, subst}
+use Rattle.std.proofs.Common.{sym, subst}
 use Rattle.lock.specs.Locks.{Apart}
 use Rattle.lock.specs.After.{held}
 use Rattle.lock.specs.Apart.{apart_begun}

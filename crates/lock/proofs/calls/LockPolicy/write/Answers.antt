@@ -1,4 +1,4 @@
-use Rattle.std.proofs.Common.{◌≡◌, sym, ◌∙◌, subst}
+use Rattle.std.proofs.Common.{sym, ◌∙◌, subst}
 use Rattle.transactions.proofs.Sound.{sound}
 use Rattle.lock.specs.Locks.{Apart}
 use Rattle.lock.specs.After.{held}

@@ -1,4 +1,4 @@
-use Rattle.std.proofs.Common.{◌≡◌, refl, ◌∙◌, rules}
+use Rattle.std.proofs.Common.{◌≡◌}
 use Rattle.std.proofs.lemmas.Result.{err_from_is_err_and}
 use Rattle.history.specs.Calls.{commit}
 use Rattle.table.proofs.Ending.{commit_kept, commit_turned_down, commit_granted, commit_refused_by}

@@ -1,4 +1,4 @@
-use Rattle.std.proofs.Common.{length, ap, arith, rules}
+use Rattle.std.proofs.Common.{length, ap, arith}
 use Rattle.table.proofs.table.Table.look_all.Goals as goal
 
 pub loop-variable-init : goal.loop-variable-init

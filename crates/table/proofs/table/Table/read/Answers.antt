@@ -1,6 +1,5 @@
-use Rattle.std.proofs.Common.{◌≡◌, length, sym, refl, ◌∙◌, to_z-of_z, w32, SFits, rules}
+use Rattle.std.proofs.Common.{◌≡◌, refl, to_z-of_z, w32, SFits, rules}
 use Rattle.std.proofs.lemmas.Result.{err_from_is_err_and}
-use Rattle.policy.specs.Limits.{tasks}
 use Rattle.history.specs.Calls.{read}
 use Rattle.table.specs.Views.{sight}
 use Rattle.table.proofs.Accessing.{read_granted, read_refused_by}

@@ -1,6 +1,5 @@
-use Rattle.std.proofs.Common.{◌≡◌, length, sym, refl, ◌∙◌, to_z-of_z, rules}
+use Rattle.std.proofs.Common.{refl, to_z-of_z}
 use Rattle.std.proofs.lemmas.Result.{err_from_is_err_and}
-use Rattle.policy.specs.Limits.{tasks}
 use Rattle.history.specs.Calls.{write}
 use Rattle.table.proofs.Accessing.{write_granted, write_refused_by}
 use Rattle.table.proofs.StepMaking.{unmoved_step, stepped}
