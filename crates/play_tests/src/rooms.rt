@@ -72,6 +72,6 @@ fn a_byte_more_is_refused(rt: HostRuntime) -> Result<(), Fail> {
     let over = long_text(heap, 9998, b"A 0\nB 33")?;
     assert_eq!(rt; over.len(), 60_001);
     let output = run(heap, &over)?;
-    assert!(rt; output.as_slice() == b"0 no 7\n");
+    assert!(rt; output.as_slice() == b"0 no 7\n".as_slice());
     Ok(())
 }
