@@ -1,6 +1,6 @@
 /* Polungaw: runs a schedule of transactions and tells what each line came to.
  *
- * Link target/staticlib/libpolungaw.a (made by `rt staticlib polungaw`). The library needs memcpy and memset and nothing else: no heap,
+ * Link crates/polungaw/out/libpolungaw.a (made by `rt lib` in crates/polungaw). The library needs memcpy and memset and nothing else: no heap,
  * no files, no static data that it changes. A call keeps nothing, so calls from several threads are fine if their buffers differ.
  *
  * Owed by the caller: pointers that aren't null, also where a length is 0; each points to as many bytes as its length says; the text and

@@ -13,7 +13,7 @@ fn main() {
     println!("cargo:rerun-if-changed={}", archive.display());
     if !archive.is_file() {
         eprintln!(
-            "{} is missing. Make it with `rt staticlib polungaw` at the repository's root, \
+            "{} is missing. Make it with `rt lib` in crates/polungaw, \
              or name its folder in {PLACE}.",
             archive.display()
         );
@@ -25,7 +25,7 @@ fn main() {
 
 fn folder() -> PathBuf {
     env::var_os(PLACE).map_or_else(
-        || Path::new(env!("CARGO_MANIFEST_DIR")).join("../target/staticlib"),
+        || Path::new(env!("CARGO_MANIFEST_DIR")).join("../crates/polungaw/out"),
         PathBuf::from,
     )
 }

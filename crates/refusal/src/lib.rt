@@ -3,8 +3,6 @@
 
 ghost use Rattle.std.specs.Prelude.{◌≡◌, ℕ};
 
-use std::convert::Infallible;
-
 pub trait Refusal {
     // the number of a refusal, which is that of the innermost one where refusals are nested
     ghost numbered: { Self → ℕ };
@@ -13,11 +11,16 @@ pub trait Refusal {
         ensures { result ≡ numbered self.now };
 }
 
-// What never refuses.
-impl Refusal for Infallible {
+// What never refuses. Nothing makes one: its field is this crate's own, and no function here answers one.
+#[derive(Clone, Copy, Debug, PartialEq, Eq)]
+pub struct NoRefusal {
+    never: (),
+}
+
+impl Refusal for NoRefusal {
     ghost numbered = { λ _. 0 };
 
     fn number(&self) -> u8 {
-        match *self {}
+        0
     }
 }

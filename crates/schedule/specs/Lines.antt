@@ -1,6 +1,6 @@
 -- What a reader of lines hands out, and that the lines are the text.
 use Rattle.std.specs.Prelude.{◌≡◌, ℕ, ◌+◌, Bool, true, cond, List, [], ◌∷◌, ◌++◌, Some, None, Option, ◌==◌}
-use Rattle.std.specs.List.{flat_map, AllByRecursion as All}
+use Rattle.std.specs.List.{flat_map, AllByRecursion}
 use Rattle.schedule.specs.Pieces.{line_feed, Clear}
 use Rattle.schedule.specs.declared.lines.Line.{Line}
 
@@ -21,5 +21,5 @@ with_feeds ls = flat_map (λ l. l ++ (line_feed ∷ [])) ls
 
 -- the lines of a text have no LF in them, and with an LF behind each they are the text, which may lack the last one
 pub record Whole (s : List ℕ) (ls : List (List ℕ)) : Type 0 where
-  pub clear : All (Clear line_feed) ls
+  pub clear : AllByRecursion (Clear line_feed) ls
   pub rejoined : with_feeds ls ≡ s ++ cond (closed s) [] (line_feed ∷ [])

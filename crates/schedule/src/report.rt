@@ -8,13 +8,13 @@ use crate::command::Command;
 use crate::fault::TextFault;
 use crate::lines::{Line, Lines};
 use crate::text::{header, within_limit};
+use refusal::NoRefusal;
 use std::alloc::{AllocError, Global};
-use std::convert::Infallible;
 
 // The faults of a text in the order of its lines, and how many lines were looked at.
 #[derive(Drop)]
 pub struct Report {
-    pub faults: Vec<TextFault<Infallible>>,
+    pub faults: Vec<TextFault<NoRefusal>>,
     pub lines: usize,
 }
 
@@ -26,8 +26,8 @@ fn judge<F>(line: Line) -> Result<Command, TextFault<F>>
 
 // Adds the fault that an answer holds, if it holds one.
 fn note<T: Drop>(
-    answer: Result<T, TextFault<Infallible>>,
-    faults: &mut Vec<TextFault<Infallible>>,
+    answer: Result<T, TextFault<NoRefusal>>,
+    faults: &mut Vec<TextFault<NoRefusal>>,
 ) -> Result<(), AllocError>
     ensures { OnOk result (faults.new.items ≡ faults.old.items ++ fault_in answer) }
 {
@@ -38,7 +38,7 @@ fn note<T: Drop>(
 }
 
 // Adds the faults of the lines after the first, and answers how many lines there are.
-fn check_lines(text: &[u8], faults: &mut Vec<TextFault<Infallible>>) -> Result<usize, AllocError>
+fn check_lines(text: &[u8], faults: &mut Vec<TextFault<NoRefusal>>) -> Result<usize, AllocError>
     ensures { IfOk result (λ n. (n ≡ length (lines text.now)) × (faults.new.items ≡ faults.old.items ++ command_faults (lines text.now))) }
 {
     let mut lines = Lines::new(text);
