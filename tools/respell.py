@@ -16,7 +16,7 @@ NAME = re.compile(r"[A-Za-z][\w']*(?:-[A-Za-z0-9][\w']*)+")
 TOKEN = re.compile(r"(?<![\w'-])[A-Za-z][\w']*(?:-[\w']+)*(?![\w'-])")
 DECLARED = re.compile(r"^\s*((?:abbrev |unfoldable |pub )*)(data |record )?([A-Za-z][\w']*(?:-[\w']+)*(?: [A-Za-z][\w']*(?:-[\w']+)*)*)(?: :| \(| \{)")
 # Names that Rattle makes from a function's code.
-MADE = re.compile(r"^(invariant|decreases|loop|returns|overflow|in|then|else|if|entry|ensures|requires)-|-(requires|requires-\d+|preserved|init|smaller)$")
+MADE = re.compile(r"^(invariant|decreases)-(loop|of)-|^(decreases|loop|returns|overflow)-|-(requires|requires-\d+|preserved|init|smaller)$")
 # A dash joins the names of two functions, and with `_` these would be the library's.
 KEPT = {"bit-or", "bit-and"}
 # Words of comments that the kit's script took for names.
@@ -88,7 +88,8 @@ def respelled(root):
 
 def spelled(text, names):
     """The text with its names in the new spelling; of a comment, only what stands between backquotes."""
-    change = lambda m: names.get(m.group(0), m.group(0))
+    aliases = {name: new_name(name) for name in re.findall(r" as ([A-Za-z][\w']*(?:-[\w']+)+)", text)}
+    change = lambda m: names.get(m.group(0), aliases.get(m.group(0), m.group(0)))
     out = []
     for line in text.split("\n"):
         cut = re.search(r"(^|\s)(--|//)\s", line)

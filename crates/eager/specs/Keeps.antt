@@ -103,15 +103,15 @@ passed t f g u p k = record {
     gains = λ v w. let l = lt-ltb v variables (p.written_below t v w) in grind arith;
   };
   near = λ b.
-      let n : f.behind u ≡ false = in-time b in
+      let n : f.behind u ≡ false = in_time b in
       record {
         no_read = λ v e. subst (λ y. (cond y (nat_lt v variables) (f.no_read u v) ≡ true) ⊎ (f.writes t v ≡ true)) (sym n) ((k.near b).no_read v (grind arith));
         no_write = λ v e. subst (λ y. (cond y (nat_lt v variables) (f.no_write u v) ≡ true) ⊎ (f.writes t v ≡ true)) (sym n) ((k.near b).no_write v (grind arith));
       };
 }
   where
-    in-time : g.behind u ≡ false → f.behind u ≡ false
-    in-time b = let s : f.behind u ≡ true → g.behind u ≡ true = k.stays_behind in grind arith
+    in_time : g.behind u ≡ false → f.behind u ≡ false
+    in_time b = let s : f.behind u ≡ true → g.behind u ≡ true = k.stays_behind in grind arith
 
 committed : (strict : Bool) (t : ℕ) (f g : Facts) → Proper f → Committed strict t f g → Committed strict t (fenced f) (fenced g)
 committed strict t f g p k = record {

@@ -4,7 +4,7 @@ use mathlib.Core.Option.{Option, none, some}
 use Rattle.policy.specs.Limits.{variables}
 use Rattle.policy.specs.Facts.{Facts, may_read, may_commit}
 use Rattle.policy.specs.Moves.{Move, Begun}
-use Rattle.policy.specs.Moves.{read as reads-variable}
+use Rattle.policy.specs.Moves.{read as reads_variable}
 use Rattle.history.specs.Calls.{Call, begin, read, write, collect, snapshot, commit, abort, task, listed, Wrong, no_variable, Untimely, Barred, read_barred, sent_wrongly, at_wrong_time, by_policy, Answer, refused}
 use Rattle.history.specs.Answers.{Stage, first_wrong, first_barred, wrong, untimely, barred, granted, checked}
 use Rattle.history.specs.Steps.{State, Chain, ReadsFor, none_made, Step, answer, sees, first_moves, granted_reads, last_moves, stage_after, pending_after, shared_after}
@@ -30,9 +30,9 @@ chain_more after [] m p q r c h = (r, subst (λ x. after x m r) c h, refl)
 chain_more after (k ∷ ms) m p q r c h = (c.0, c.1, chain_more after ms m c.0 q r c.2 h)
 
 -- granted reads, and one more
-pub reads_more : {P : Type 0} (after : P → Move → P → Type 0) (t : ℕ) (vs : List ℕ) (v : ℕ) (p q r : P) → Chain after (map (reads-variable t) vs) p q
-    → after q (reads-variable t v) r → Chain after (map (reads-variable t) (vs ++ (v ∷ []))) p r
-reads_more after t [] v p q r c h = (r, subst (λ x. after x (reads-variable t v) r) c h, refl)
+pub reads_more : {P : Type 0} (after : P → Move → P → Type 0) (t : ℕ) (vs : List ℕ) (v : ℕ) (p q r : P) → Chain after (map (reads_variable t) vs) p q
+    → after q (reads_variable t v) r → Chain after (map (reads_variable t) (vs ++ (v ∷ []))) p r
+reads_more after t [] v p q r c h = (r, subst (λ x. after x (reads_variable t v) r) c h, refl)
 reads_more after t (w ∷ vs) v p q r c h = (c.0, c.1, reads_more after t vs v c.0 q r c.2 h)
 
 -- a list whose reads are granted, and one more variable

@@ -4,7 +4,7 @@ use mathlib.Core.List.{Memᴰ}
 use mathlib.Core.Option.{none, some}
 use Rattle.policy.specs.Facts.{Facts, may_read}
 use Rattle.policy.specs.Moves.{Move, Keeps, read_refused}
-use Rattle.policy.specs.Moves.{begin as begins, read as reads-variable, commit as commits}
+use Rattle.policy.specs.Moves.{begin as begins, read as reads_variable, commit as commits}
 use Rattle.history.specs.Calls.{collect, snapshot, listed, read_barred, by_policy, values, refused}
 use Rattle.history.specs.Answers.{wrong, untimely, first_barred}
 use Rattle.history.specs.Steps.{State, Chain, ReadsFor, none_made, made, left_out, Step, sees, stage_after, pending_after}
@@ -34,7 +34,7 @@ module _ {P : Type 0} (facts : P → Facts) (after : P → Move → P → Type 0
   pub record Collecting (done : List ℕ) (p q : P) (count : ℕ) : Type 0 where
     pub reads : List ℕ
     pub made_for : ReadsFor done reads
-    pub chain : Chain after (map (reads-variable t) reads) p q
+    pub chain : Chain after (map (reads_variable t) reads) p q
     pub granted : first_barred (facts p) t 0 done ≡ none
     pub counted : length reads ≡ count
 
@@ -46,7 +46,7 @@ module _ {P : Type 0} (facts : P → Facts) (after : P → Move → P → Type 0
 
   -- one more read of the policy
   pub collect_one : {done : List ℕ} {p q : P} {count : ℕ} (v : ℕ) (r : P) → (facts p).active t ≡ true → Collecting done p q count
-      → may_read (facts q) t v ≡ true → after q (reads-variable t v) r → Collecting (done ++ (v ∷ [])) p r (suc count)
+      → may_read (facts q) t v ≡ true → after q (reads_variable t v) r → Collecting (done ++ (v ∷ [])) p r (suc count)
   collect_one {done} {p} {q} {count} v r l c may h = record {
     reads = c.reads ++ (v ∷ []);
     made_for = made v c.made_for;

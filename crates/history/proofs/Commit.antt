@@ -13,7 +13,7 @@ use Rattle.history.specs.Serial.{all_committed, replay, AllExact, InOrder}
 use Rattle.history.specs.Law.{Stood, just, earlier, Rival}
 use Rattle.history.proofs.Logic.{truth, not_both, no_some, contraposed, at_same, at_other, marked_value, marked_none, marked_some}
 use Rattle.history.proofs.Accesses.{pend_touches, exact_agree}
-use Rattle.history.proofs.Orders.{replay-++, exact-order-++, replay_insert, exact_insert, Silent, mem-++, mem_skip, order_insert, Cuts, earlier as cut-earlier, later as cut_later, cuts}
+use Rattle.history.proofs.Orders.{replay-++, exact-order-++, replay_insert, exact_insert, Silent, mem-++, mem_skip, order_insert, Cuts, earlier as cut_earlier, later as cut_later, cuts}
 use Rattle.history.proofs.Rules.{silent_behind, bars_kept, bars_gained}
 use Rattle.history.proofs.Views.{View}
 use Rattle.history.proofs.Effects.{Commits}
@@ -198,7 +198,7 @@ module _ (strict : Bool) (t : ℕ) (a b : View) (L : Ledger) (order : List Trans
         newer ms q U (inr m) = inl (subst (λ (r : List Transaction). Memᴰ U r) (sym q) m)
 
         go : Cuts pre post ps qs → Shift b u first order_between ps qs
-        go (cut-earlier ms p q) = record {
+        go (cut_earlier ms p q) = record {
           pre' = pre ++ (T' ∷ ms);
           post' = qs;
           cut = ap (λ (r : List Transaction). pre ++ (T' ∷ r)) q ∙ sym (append_assoc pre (T' ∷ ms) qs);

@@ -6,7 +6,7 @@ use Rattle.policy.specs.Facts.{Facts}
 use Rattle.policy.specs.Moves.{Only, Others, Spared}
 use Rattle.history.specs.Transactions.{Fate, aborted, policy_refused, Transaction, Ledger, calls, note, ends, over_with}
 use Rattle.history.specs.Alone.{nothing_pending, SharedAnswer}
-use Rattle.history.specs.Serial.{if-committed, all_committed}
+use Rattle.history.specs.Serial.{if_committed, all_committed}
 use Rattle.history.specs.Law.{Listed, Rival}
 use Rattle.history.proofs.Logic.{truth, not_both, at_same, at_other}
 use Rattle.history.proofs.Accesses.{pend_touches}
@@ -59,7 +59,7 @@ pub record EndsWith (t : ℕ) (z : Fate) (vs : List ℕ) (a b : View) (L : Ledge
   pub only : Only t a.facts b.facts
   pub others : Others t a.facts (Relieved vs a.facts b.facts)
   pub quiet : Quiet t a b
-  pub unshared : (U : Transaction) (Us : List Transaction) → if-committed z U Us ≡ Us
+  pub unshared : (U : Transaction) (Us : List Transaction) → if_committed z U Us ≡ Us
   pub listed : (w : ℕ) → Memᴰ w vs → Listed z w
   pub because : (q : Option ℕ) (ps : List ℕ) → z ≡ policy_refused q ps → Because L t T q
 

@@ -5,9 +5,9 @@ use mathlib.Core.List.Memᴰ
 use mathlib.Core.List.{Memᴰ}
 use Rattle.policy.specs.Facts.{Facts}
 use Rattle.policy.specs.Moves.{Move, Only, Others, Beside, HasRead, Keeps}
-use Rattle.policy.specs.Moves.{read as reads-variable}
+use Rattle.policy.specs.Moves.{read as reads_variable}
 use Rattle.history.specs.Steps.{ReadsFor, none_made, made, left_out, Chain}
-use Rattle.history.proofs.Logic.{truth, either_true, not-true}
+use Rattle.history.proofs.Logic.{truth, either_true, not_true}
 
 -- another active task u, after granted accesses to vs
 pub record BesideAll (vs : List ℕ) (f g : Facts) (u : ℕ) : Type 0 where
@@ -110,7 +110,7 @@ read_one {t} {v} {f} {g} p = record {
     the_one w (Memᴰ.tail m) = elim m [ ]
 
     may : (f.writes t v ≡ true) ⊎ (f.no_read t v ≡ false)
-    may = elim (either_true (f.writes t v) (not (f.no_read t v)) p.granted) [ inl e ↦ inl e | inr e ↦ inr (not-true (f.no_read t v) e) ]
+    may = elim (either_true (f.writes t v) (not (f.no_read t v)) p.granted) [ inl e ↦ inl e | inr e ↦ inr (not_true (f.no_read t v) e) ]
 
     kept : (w : ℕ) → f.reads t w ≡ true → Dec (w ≡ v) → (f.writes t v ≡ true) ⊎ (f.writes t v ≡ false) → g.reads t w ≡ true
     kept w e (no q) d = p.reads w q ∙ e
@@ -199,14 +199,14 @@ made_short (left_out {vs = vs} v i r) = let k = made_short r in rw (length-appen
 module _ {P : Type 0} (facts : P → Facts) (after : P → Move → P → Type 0) (strict : Bool)
     (keeps : (p q : P) (m : Move) → after p m q → Keeps strict m (facts p) (facts q)) where
   -- a chain of granted reads
-  pub chain_reads : (t : ℕ) (rs : List ℕ) (p q : P) → (facts p).active t ≡ true → Chain after (map (reads-variable t) rs) p q
+  pub chain_reads : (t : ℕ) (rs : List ℕ) (p q : P) → (facts p).active t ≡ true → Chain after (map (reads_variable t) rs) p q
       → ReadAll t rs (facts p) (facts q)
   chain_reads t [] p q l e = subst (λ (x : P). ReadAll t [] (facts p) (facts x)) (sym e) (read_none t (facts p) l)
   chain_reads t (v ∷ rs) p q l c =
-      let h : ReadAll t (v ∷ []) (facts p) (facts c.0) = read_one (keeps p c.0 (reads-variable t v) c.1) in
+      let h : ReadAll t (v ∷ []) (facts p) (facts c.0) = read_one (keeps p c.0 (reads_variable t v) c.1) in
       read_more h (chain_reads t rs c.0 q h.active c.2)
 
   -- the granted reads that a step makes for the variables vs
   pub made_reads : (t : ℕ) (vs rs : List ℕ) (p q : P) → (facts p).active t ≡ true → ReadsFor vs rs
-      → Chain after (map (reads-variable t) rs) p q → ReadAll t vs (facts p) (facts q)
+      → Chain after (map (reads_variable t) rs) p q → ReadAll t vs (facts p) (facts q)
   made_reads t vs rs p q l m c = read_same vs (made_covers m) (made_only m) (chain_reads t rs p q l c)

@@ -3,12 +3,12 @@ use Rattle.std.proofs.Common.{◌≡◌, ℕ, Bool, true, false, List, [], ◌�
 use mathlib.Core.Option.{none, some}
 use Rattle.policy.specs.Facts.{Facts, may_read, may_write, may_commit, Proper}
 use Rattle.policy.specs.Moves.{Move, Begun, HasWritten, Ended, Refused, Committed, Keeps, read_refused, write_refused, commit_refused}
-use Rattle.policy.specs.Moves.{begin as begins, read as reads-variable, write as writes-variable, commit as commits, abort as aborts}
+use Rattle.policy.specs.Moves.{begin as begins, read as reads_variable, write as writes_variable, commit as commits, abort as aborts}
 use Rattle.history.specs.Calls.{Call, begin, read, write, collect, snapshot, commit, abort, task, single, Barred, read_barred, write_barred, commit_barred, by_policy, Answer, done, refused}
 use Rattle.history.specs.Answers.{Stage, idle, active, broken, granted, must_not_be_idle}
 use Rattle.history.specs.Steps.{State, Chain, ReadsFor, Step, sees, abort_moves}
 use Rattle.history.specs.Transactions.{Addition, adds, ends, Transaction, Ledger, aborted, policy_refused, calls, gots, note, addition}
-use Rattle.history.specs.Runs.{in-transaction, Sound}
+use Rattle.history.specs.Runs.{in_transaction, Sound}
 use Rattle.history.proofs.Logic.{not_both, no_some, at_same, at_other, not_false}
 use Rattle.history.proofs.Rules.{commit_silent, commit_behind, read_bar}
 use Rattle.history.proofs.Views.{view, sight, Quiet}
@@ -63,11 +63,11 @@ module _ {P : Type 0} (facts : P → Facts) (after : P → Move → P → Type 0
 
   -- the policy has the task of a timely access
   was_active : (t : ℕ) → a.stage t ≡ active → (facts a.policy).active t ≡ true
-  was_active t e = sound.agree t ∙ ap in-transaction e
+  was_active t e = sound.agree t ∙ ap in_transaction e
 
   -- reads of vs, from the policy `opened` to `between`
   module _ (t : ℕ) (vs rs : List ℕ) (opened between : P) (start : opened ≡ a.policy) (stage : a.stage t ≡ active)
-      (made : ReadsFor vs rs) (chain : Chain after (map (reads-variable t) rs) opened between) (quiet : Quiet t (view facts a) (view facts b)) where
+      (made : ReadsFor vs rs) (chain : Chain after (map (reads_variable t) rs) opened between) (quiet : Quiet t (view facts a) (view facts b)) where
     rule : ReadAll t vs (facts a.policy) (facts between)
     rule =
         subst (λ (x : P). ReadAll t vs (facts x) (facts between)) start
@@ -140,7 +140,7 @@ module _ {P : Type 0} (facts : P → Facts) (after : P → Move → P → Type 0
       )))
       (λ p k y s' e.
       let h : HasWritten t v (facts a.policy) (facts b.policy) =
-      keeps a.policy b.policy (writes-variable t v) (one_move facts after strict (writes-variable t v) a.policy b.policy (last_alone facts after strict s' refl refl)) in (
+      keeps a.policy b.policy (writes_variable t v) (one_move facts after strict (writes_variable t v) a.policy b.policy (last_alone facts after strict s' refl refl)) in (
         order,
         write_keeps t v x (view facts a) (view facts b) L order inv (record {
           rule = h;
@@ -192,7 +192,7 @@ module _ {P : Type 0} (facts : P → Facts) (after : P → Move → P → Type 0
             }),
           )
       at_stage broken g y s' =
-          let out : (facts a.policy).active t ≡ false = sound.agree t ∙ ap in-transaction g in
+          let out : (facts a.policy).active t ≡ false = sound.agree t ∙ ap in_transaction g in
           let c : b.policy ≡ a.policy =
           subst (λ (x : Stage). Chain after (abort_moves t x) a.policy b.policy) g (last_alone facts after strict s' refl refl) in (
             order,

@@ -31,9 +31,9 @@ pub both_true : (x y : Bool) → x && y ≡ true → (x ≡ true) × (y ≡ true
 both_true true y h = (refl, h)
 both_true false y h = absurd (not_both h refl)
 
-pub not-true : (x : Bool) → not x ≡ true → x ≡ false
-not-true true h = absurd (not_both h refl)
-not-true false h = refl
+pub not_true : (x : Bool) → not x ≡ true → x ≡ false
+not_true true h = absurd (not_both h refl)
+not_true false h = refl
 
 pub not_false : (x : Bool) → not x ≡ false → x ≡ true
 not_false true h = refl

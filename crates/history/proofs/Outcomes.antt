@@ -4,12 +4,12 @@ use native.Mathlib.Decide.{ℕ_discrete}
 use mathlib.Core.Option.{Option, none, some}
 use Rattle.policy.specs.Facts.{Facts, may_read}
 use Rattle.policy.specs.Moves.{Move}
-use Rattle.policy.specs.Moves.{read as reads-variable}
+use Rattle.policy.specs.Moves.{read as reads_variable}
 use Rattle.history.specs.Calls.{Call, begin, read, write, collect, snapshot, commit, abort, task, listed, Wrong, Untimely, Barred, read_barred, sent_wrongly, at_wrong_time, by_policy, Answer, refused}
 use Rattle.history.specs.Answers.{Stage, idle, active, broken, checked, must_be_active, must_be_idle, unless_allowed, first_barred, wrong, untimely, barred, granted}
 use Rattle.history.specs.Steps.{State, Chain, ReadsFor, none_made, made, left_out, Step, sees, first_moves, granted_reads, last_moves, stage_after, pending_after, shared_after}
 use Rattle.history.specs.Transactions.{nothing, addition}
-use Rattle.history.specs.Runs.{in-transaction}
+use Rattle.history.specs.Runs.{in_transaction}
 use Rattle.history.proofs.Logic.{no_some}
 
 -- an answer is decided by the first check that fails
@@ -54,7 +54,7 @@ pub record Unasked (c : Call) (s : Stage) (r : Answer) : Type 0 where
   pub first : first_moves c r ≡ []
   pub reads : granted_reads c r ≡ []
   pub last : last_moves c s r ≡ []
-  pub stage : in-transaction (stage_after c r s) ≡ in-transaction s
+  pub stage : in_transaction (stage_after c r s) ≡ in_transaction s
   pub pending : (p : ℕ → ℤ) → pending_after c r p ≡ p
   pub shared : (see old : ℕ → ℤ) → shared_after c r see old ≡ old
   pub adds : (n : ℕ) → addition n c r ≡ nothing
@@ -69,7 +69,7 @@ wrong_unasked (commit t) s x = record { first = refl; reads = refl; last = refl;
 wrong_unasked (abort t) s x = record { first = refl; reads = refl; last = refl; stage = refl; pending = λ p. refl; shared = λ e o. refl; adds = λ n. refl }
 
 -- a commit at the wrong time finds no transaction
-out : (s : Stage) (x : Untimely) → must_be_active s ≡ some x → in-transaction s ≡ false
+out : (s : Stage) (x : Untimely) → must_be_active s ≡ some x → in_transaction s ≡ false
 out idle x e = refl
 out active x e = absurd (no_some refl e)
 out broken x e = refl
@@ -108,8 +108,8 @@ module _ {P : Type 0} (facts : P → Facts) (after : P → Move → P → Type 0
     -- without reads, the policy stays as it was opened
     pub between_is : granted_reads c r ≡ [] → s.between ≡ s.opened
     between_is e =
-        no_move (map (reads-variable (task c)) s.reads) s.opened s.between
-        (ap (map (reads-variable (task c))) (made_none s.reads_made e)) s.reading
+        no_move (map (reads_variable (task c)) s.reads) s.opened s.between
+        (ap (map (reads_variable (task c))) (made_none s.reads_made e)) s.reading
 
     -- a step without a begin and without reads makes its last moves alone
     pub last_alone : first_moves c r ≡ [] → granted_reads c r ≡ [] → Chain after (last_moves c (a.stage (task c)) r) a.policy b.policy

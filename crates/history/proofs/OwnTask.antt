@@ -3,11 +3,11 @@ use Rattle.std.proofs.Common.{◌≡◌, ℕ, Bool, false, List, [], ◌∷◌, 
 use mathlib.Core.Option.{none}
 use Rattle.policy.specs.Facts.{Facts, Proper, may_read, may_write, may_commit}
 use Rattle.policy.specs.Moves.{Move, HasWritten, Keeps, read_refused, write_refused, commit_refused}
-use Rattle.policy.specs.Moves.{begin as begins, read as reads-variable, write as writes-variable, commit as commits, abort as aborts}
+use Rattle.policy.specs.Moves.{begin as begins, read as reads_variable, write as writes_variable, commit as commits, abort as aborts}
 use Rattle.history.specs.Calls.{Call, begin, read, write, collect, snapshot, commit, abort, task, single, Barred, read_barred, write_barred, commit_barred, by_policy, Answer, done, refused}
 use Rattle.history.specs.Answers.{Stage, idle, active, broken, untimely, must_be_idle, must_not_be_idle}
 use Rattle.history.specs.Steps.{State, Chain, Step, abort_moves, stage_after, pending_after}
-use Rattle.history.specs.Runs.{in-transaction, Sound}
+use Rattle.history.specs.Runs.{in_transaction, Sound}
 use Rattle.history.proofs.Logic.{not_both, no_some, at_elim}
 use Rattle.history.proofs.GrantedReads.{ReadAll, chain_reads}
 use Rattle.history.proofs.Outcomes.{is_active, is_idle, the_bar, the_place, Unasked, one_move, last_alone, unasked_policy, by_answer}
@@ -17,7 +17,7 @@ module _ {P : Type 0} (facts : P → Facts) (after : P → Move → P → Type 0
     (a b : State P) (sound : Sound facts a) where
   -- the task of a call agrees with the policy after it
   abbrev pub Own : Call → Answer → Type 0
-  Own c r = ((facts b.policy).active (task c) ≡ in-transaction (stage_after c r (a.stage (task c))))
+  Own c r = ((facts b.policy).active (task c) ≡ in_transaction (stage_after c r (a.stage (task c))))
       × ((v : ℕ) → (facts b.policy).writes (task c) v ≡ false → pending_after c r (a.pending (task c)) v ≡ pos 0)
 
   unasked : (c : Call) (r : Answer) → Unasked c (a.stage (task c)) r → Step facts after strict c a r b → Own c r
@@ -36,16 +36,16 @@ module _ {P : Type 0} (facts : P → Facts) (after : P → Move → P → Type 0
 
   -- after granted reads
   reads_own : (t : ℕ) (rs : List ℕ) (opened between : P) → opened ≡ a.policy → a.stage t ≡ active
-      → Chain after (map (reads-variable t) rs) opened between → b.policy ≡ between
-      → ((facts b.policy).active t ≡ in-transaction (a.stage t)) × ((v : ℕ) → (facts b.policy).writes t v ≡ false → a.pending t v ≡ pos 0)
+      → Chain after (map (reads_variable t) rs) opened between → b.policy ≡ between
+      → ((facts b.policy).active t ≡ in_transaction (a.stage t)) × ((v : ℕ) → (facts b.policy).writes t v ≡ false → a.pending t v ≡ pos 0)
   reads_own t rs opened between start stage chain end = (
-    ap (λ (p : P). (facts p).active t) end ∙ rule.active ∙ sym (ap in-transaction stage),
+    ap (λ (p : P). (facts p).active t) end ∙ rule.active ∙ sym (ap in_transaction stage),
     λ v e. sound.unwritten t v (ap (λ (p : P). (facts p).writes t v) (sym start) ∙ sym (rule.writes v) ∙ ap (λ (p : P). (facts p).writes t v) (sym end) ∙ e),
   )
     where
       rule : ReadAll t rs (facts opened) (facts between)
       rule = chain_reads facts after strict keeps t rs opened between
-          (ap (λ (p : P). (facts p).active t) start ∙ sound.agree t ∙ ap in-transaction stage) chain
+          (ap (λ (p : P). (facts p).active t) start ∙ sound.agree t ∙ ap in_transaction stage) chain
 
   -- after a refused read
   barred_own : (t v : ℕ) (between : P) → Chain after (read_refused t v ∷ []) between b.policy → (facts b.policy).active t ≡ false
@@ -69,11 +69,11 @@ module _ {P : Type 0} (facts : P → Facts) (after : P → Move → P → Type 0
       (λ w y p z. subst (λ (why : Barred). Step facts after strict (write t v x) a (refused (by_policy why)) b → Own (write t v x) (refused (by_policy why)))
       (the_bar (may_write (facts p) t v) (write_barred v) w z)
       (λ s'. ((only_rule (write_refused t v) (last_alone facts after strict s' refl refl)).ended.gone, λ u f. refl)))
-      (λ p k y s' e. written (only_rule (writes-variable t v) (last_alone facts after strict s' refl refl)) y)
+      (λ p k y s' e. written (only_rule (writes_variable t v) (last_alone facts after strict s' refl refl)) y)
     where
       written : HasWritten t v (facts a.policy) (facts b.policy) → untimely (write t v x) (a.stage t) ≡ none → Own (write t v x) done
       written h y = (
-        h.active ∙ sym (ap in-transaction (is_active (a.stage t) y)),
+        h.active ∙ sym (ap in_transaction (is_active (a.stage t) y)),
         λ w f. at_elim (λ (z : ℤ). z ≡ pos 0) (a.pending t) v x w
             (λ q. absurd (not_both h.written (ap ((facts b.policy).writes t) (sym q) ∙ f)))
             (λ ne. sound.unwritten t w (sym (h.writes w ne) ∙ f)),
@@ -96,7 +96,7 @@ module _ {P : Type 0} (facts : P → Facts) (after : P → Move → P → Type 0
           → (facts b.policy).active t ≡ false
       at_stage idle e y s' = absurd (no_some y (ap must_not_be_idle e))
       at_stage active e y s' = (only_rule (aborts t) (moved e s')).gone
-      at_stage broken e y s' = ap (λ (p : P). (facts p).active t) (moved e s') ∙ sound.agree t ∙ ap in-transaction e
+      at_stage broken e y s' = ap (λ (p : P). (facts p).active t) (moved e s') ∙ sound.agree t ∙ ap in_transaction e
 
   snapshot_own : (t : ℕ) (vs : List ℕ) (room : ℕ) (r : Answer) → Step facts after strict (snapshot t vs room) a r b → Own (snapshot t vs room) r
   snapshot_own t vs room r s = by_answer facts after strict s (Own (snapshot t vs room)) (unasked (snapshot t vs room))
@@ -106,9 +106,9 @@ module _ {P : Type 0} (facts : P → Facts) (after : P → Move → P → Type 0
       (λ p k y s' e. idle_still (keeps s'.between b.policy (commits t) (one_move facts after strict (commits t) s'.between b.policy s'.closing)).gone y)
     where
       idle_still : (facts b.policy).active t ≡ false → must_be_idle (a.stage t) ≡ none
-          → ((facts b.policy).active t ≡ in-transaction (a.stage t)) × ((v : ℕ) → (facts b.policy).writes t v ≡ false → a.pending t v ≡ pos 0)
+          → ((facts b.policy).active t ≡ in_transaction (a.stage t)) × ((v : ℕ) → (facts b.policy).writes t v ≡ false → a.pending t v ≡ pos 0)
       idle_still gone y =
-          let out : in-transaction (a.stage t) ≡ false = ap in-transaction (is_idle (a.stage t) y) in
+          let out : in_transaction (a.stage t) ≡ false = ap in_transaction (is_idle (a.stage t) y) in
           (gone ∙ sym out, λ v f. sound.unwritten t v ((proper a.policy).no_writes t v (sound.agree t ∙ out)))
 
   pub own_task : (c : Call) (r : Answer) → Step facts after strict c a r b → Own c r

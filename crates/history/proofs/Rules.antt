@@ -4,7 +4,7 @@ use native.Mathlib.Decide.{ℕ_discrete}
 use Rattle.policy.specs.Limits.{variables}
 use Rattle.policy.specs.Facts.{Facts, some_below, may_read, may_commit, Proper}
 use Rattle.policy.specs.Moves.{Passed, Spared}
-use Rattle.history.proofs.Logic.{truth, not_both, neither_true, both_true, not-true, not_false}
+use Rattle.history.proofs.Logic.{truth, not_both, neither_true, both_true, not_true, not_false}
 
 -- a set of which nothing is below n has nothing below n
 pub none_below : (n : ℕ) (s : ℕ → Bool) → some_below n s ≡ false → (v : ℕ) → v < n → s v ≡ false
@@ -24,7 +24,7 @@ commit_silent strict f t proper may behind w = go (truth (f.writes t w))
     some_written = strict || some_below variables (f.writes t)
 
     none_written : (x : Bool) → not (x && some_written) ≡ true → x ≡ true → some_written ≡ false
-    none_written true h e = not-true some_written h
+    none_written true h e = not_true some_written h
     none_written false h e = absurd (not_both e refl)
 
     go : (f.writes t w ≡ true) ⊎ (f.writes t w ≡ false) → f.writes t w ≡ false

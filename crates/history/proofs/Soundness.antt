@@ -3,19 +3,19 @@ use Rattle.std.proofs.Common.{◌≡◌, ℕ, Bool, true, false, ◌≢◌, ◌�
 use native.Mathlib.Decide.{ℕ_discrete}
 use Rattle.policy.specs.Facts.{Facts, Proper}
 use Rattle.policy.specs.Moves.{Move, Keeps, read_refused, write_refused, commit_refused}
-use Rattle.policy.specs.Moves.{begin as begins, read as reads-variable, write as writes-variable, commit as commits, abort as aborts}
+use Rattle.policy.specs.Moves.{begin as begins, read as reads_variable, write as writes_variable, commit as commits, abort as aborts}
 use Rattle.history.specs.Calls.{Call, begin, read, write, collect, snapshot, commit, abort, task, Barred, read_barred, write_barred, commit_barred, sent_wrongly, at_wrong_time, by_policy, Answer, done, value, values, refused}
 use Rattle.history.specs.Answers.{Stage, idle, active, broken}
-use Rattle.history.specs.Steps.{State, Chain, Step, in-case, first_moves, refused_read, abort_moves, last_moves}
-use Rattle.history.specs.Runs.{in-transaction, Sound, New}
+use Rattle.history.specs.Steps.{State, Chain, Step, in_case, first_moves, refused_read, abort_moves, last_moves}
+use Rattle.history.specs.Runs.{in_transaction, Sound, New}
 use Rattle.history.proofs.Logic.{truth}
 use Rattle.history.proofs.OwnTask.{Own, own_task}
 
 -- the task whose call a move is
 abbrev pub mover : Move → ℕ
 mover (begins t) = t
-mover (reads-variable t v) = t
-mover (writes-variable t v) = t
+mover (reads_variable t v) = t
+mover (writes_variable t v) = t
 mover (read_refused t v) = t
 mover (write_refused t v) = t
 mover (commits t) = t
@@ -34,8 +34,8 @@ pub record Beside (t : ℕ) (f g : Facts) : Type 0 where
 
 pub move_beside : (strict : Bool) (m : Move) (f g : Facts) → Keeps strict m f g → Beside (mover m) f g
 move_beside strict (begins t) f g k = record { active = k.only; writes = λ u ne l. (k.others u ne l).sets.writes }
-move_beside strict (reads-variable t v) f g k = record { active = k.only; writes = λ u ne l. (k.others u ne l).sets.writes }
-move_beside strict (writes-variable t v) f g k = record { active = k.only; writes = λ u ne l. (k.others u ne l).sets.writes }
+move_beside strict (reads_variable t v) f g k = record { active = k.only; writes = λ u ne l. (k.others u ne l).sets.writes }
+move_beside strict (writes_variable t v) f g k = record { active = k.only; writes = λ u ne l. (k.others u ne l).sets.writes }
 move_beside strict (read_refused t v) f g k = record { active = k.ended.only; writes = λ u ne l. (k.ended.others u ne l).sets.writes }
 move_beside strict (write_refused t v) f g k = record { active = k.ended.only; writes = λ u ne l. (k.ended.others u ne l).sets.writes }
 move_beside strict (commits t) f g k = record { active = k.only; writes = λ u ne l. (k.others u ne l).sets.writes }
@@ -57,24 +57,24 @@ same_writes {t} {f} {g} pf pg h u ne v = go (truth (f.active u))
     go (inr l) = pg.no_writes u v (h.active u ne ∙ l) ∙ sym (pf.no_writes u v l)
 
 -- whatever holds of each case holds of the case that an answer picks
-in-each-case : {A : Type 0} (Q : A → Type 0) (r : Answer) (ok : A) (bar : Barred → A) (un : A) → Q ok → ((x : Barred) → Q (bar x)) → Q un → Q (in-case r ok bar un)
-in-each-case Q done ok bar un f g h = f
-in-each-case Q (value x) ok bar un f g h = f
-in-each-case Q (values xs k) ok bar un f g h = f
-in-each-case Q (refused (sent_wrongly x)) ok bar un f g h = h
-in-each-case Q (refused (at_wrong_time x)) ok bar un f g h = h
-in-each-case Q (refused (by_policy x)) ok bar un f g h = g x
+in_each_case : {A : Type 0} (Q : A → Type 0) (r : Answer) (ok : A) (bar : Barred → A) (un : A) → Q ok → ((x : Barred) → Q (bar x)) → Q un → Q (in_case r ok bar un)
+in_each_case Q done ok bar un f g h = f
+in_each_case Q (value x) ok bar un f g h = f
+in_each_case Q (values xs k) ok bar un f g h = f
+in_each_case Q (refused (sent_wrongly x)) ok bar un f g h = h
+in_each_case Q (refused (at_wrong_time x)) ok bar un f g h = h
+in_each_case Q (refused (by_policy x)) ok bar un f g h = g x
 
 first_by : (c : Call) (r : Answer) → AllBy (task c) (first_moves c r)
 first_by (begin t) r = tt
 first_by (read t v) r = tt
 first_by (write t v x) r = tt
 first_by (collect t vs n) r = tt
-first_by (snapshot t vs n) r = in-each-case (AllBy t) r (begins t ∷ []) (λ why. begins t ∷ []) [] (refl, tt) (λ x. (refl, tt)) tt
+first_by (snapshot t vs n) r = in_each_case (AllBy t) r (begins t ∷ []) (λ why. begins t ∷ []) [] (refl, tt) (λ x. (refl, tt)) tt
 first_by (commit t) r = tt
 first_by (abort t) r = tt
 
-reads_by : (t : ℕ) (vs : List ℕ) → AllBy t (map (reads-variable t) vs)
+reads_by : (t : ℕ) (vs : List ℕ) → AllBy t (map (reads_variable t) vs)
 reads_by t [] = tt
 reads_by t (v ∷ vs) = (refl, reads_by t vs)
 
@@ -89,18 +89,18 @@ abort_by t active = (refl, tt)
 abort_by t broken = tt
 
 last_by : (c : Call) (s : Stage) (r : Answer) → AllBy (task c) (last_moves c s r)
-last_by (begin t) s r = in-each-case (AllBy t) r (begins t ∷ []) (λ why. []) [] (refl, tt) (λ x. tt) tt
-last_by (read t v) s r = in-each-case (AllBy t) r [] (λ why. read_refused t v ∷ []) [] tt (λ x. (refl, tt)) tt
-last_by (write t v x) s r = in-each-case (AllBy t) r (writes-variable t v ∷ []) (λ why. write_refused t v ∷ []) [] (refl, tt) (λ y. (refl, tt)) tt
-last_by (collect t vs n) s r = in-each-case (AllBy t) r [] (refused_read t) [] tt (refused_by t) tt
-last_by (snapshot t vs n) s r = in-each-case (AllBy t) r (commits t ∷ []) (refused_read t) [] (refl, tt) (refused_by t) tt
-last_by (commit t) s r = in-each-case (AllBy t) r (commits t ∷ []) (λ why. commit_refused t ∷ []) [] (refl, tt) (λ x. (refl, tt)) tt
-last_by (abort t) s r = in-each-case (AllBy t) r (abort_moves t s) (λ why. []) [] (abort_by t s) (λ x. tt) tt
+last_by (begin t) s r = in_each_case (AllBy t) r (begins t ∷ []) (λ why. []) [] (refl, tt) (λ x. tt) tt
+last_by (read t v) s r = in_each_case (AllBy t) r [] (λ why. read_refused t v ∷ []) [] tt (λ x. (refl, tt)) tt
+last_by (write t v x) s r = in_each_case (AllBy t) r (writes_variable t v ∷ []) (λ why. write_refused t v ∷ []) [] (refl, tt) (λ y. (refl, tt)) tt
+last_by (collect t vs n) s r = in_each_case (AllBy t) r [] (refused_read t) [] tt (refused_by t) tt
+last_by (snapshot t vs n) s r = in_each_case (AllBy t) r (commits t ∷ []) (refused_read t) [] (refl, tt) (refused_by t) tt
+last_by (commit t) s r = in_each_case (AllBy t) r (commits t ∷ []) (λ why. commit_refused t ∷ []) [] (refl, tt) (λ x. (refl, tt)) tt
+last_by (abort t) s r = in_each_case (AllBy t) r (abort_moves t s) (λ why. []) [] (abort_by t s) (λ x. tt) tt
 
 module _ {P : Type 0} (facts : P → Facts) where
   pub new_sound : {a : State P} → New facts a → Sound facts a
   new_sound {a} n = record {
-    agree = λ t. n.fresh t ∙ sym (ap in-transaction (n.stage t));
+    agree = λ t. n.fresh t ∙ sym (ap in_transaction (n.stage t));
     unwritten = λ t v e. n.pending t v;
   }
 
@@ -115,7 +115,7 @@ module _ {P : Type 0} (facts : P → Facts) where
     step_beside : {c : Call} {a b : State P} {r : Answer} → Step facts after strict c a r b → Beside (task c) (facts a.policy) (facts b.policy)
     step_beside {c} {a} {b} {r} s =
         beside_more (chain_beside (task c) (first_moves c r) a.policy s.opened (first_by c r) s.opening)
-        (beside_more (chain_beside (task c) (map (reads-variable (task c)) s.reads) s.opened s.between (reads_by (task c) s.reads) s.reading)
+        (beside_more (chain_beside (task c) (map (reads_variable (task c)) s.reads) s.opened s.between (reads_by (task c) s.reads) s.reading)
         (chain_beside (task c) (last_moves c (a.stage (task c)) r) s.between b.policy (last_by c (a.stage (task c)) r) s.closing))
 
     -- every call keeps a table sound
@@ -128,9 +128,9 @@ module _ {P : Type 0} (facts : P → Facts) where
         own : Own facts after strict keeps proper a b sound c r
         own = own_task facts after strict keeps proper a b sound c r s
 
-        agree : (u : ℕ) → Dec (u ≡ task c) → (facts b.policy).active u ≡ in-transaction (b.stage u)
-        agree u (yes q) = subst (λ (k : ℕ). (facts b.policy).active k ≡ in-transaction (b.stage k)) (sym q) (own.0 ∙ sym (ap in-transaction s.stage))
-        agree u (no ne) = (step_beside s).active u ne ∙ sound.agree u ∙ sym (ap in-transaction (s.other_stages u ne))
+        agree : (u : ℕ) → Dec (u ≡ task c) → (facts b.policy).active u ≡ in_transaction (b.stage u)
+        agree u (yes q) = subst (λ (k : ℕ). (facts b.policy).active k ≡ in_transaction (b.stage k)) (sym q) (own.0 ∙ sym (ap in_transaction s.stage))
+        agree u (no ne) = (step_beside s).active u ne ∙ sound.agree u ∙ sym (ap in_transaction (s.other_stages u ne))
 
         unwritten : (u v : ℕ) → (facts b.policy).writes u v ≡ false → Dec (u ≡ task c)
             → ((facts a.policy).active u ≡ true) ⊎ ((facts a.policy).active u ≡ false) → b.pending u v ≡ pos 0

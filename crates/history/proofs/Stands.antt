@@ -31,8 +31,8 @@ held_moment {L} {T} h = record {
 unended_unbarred : {asked : Option ℕ} {passed : List ℕ} → unended ≡ policy_refused asked passed → ⊥
 unended_unbarred e = let z : ◌≡◌ {A = ℕ} 0 1 = cc in omega arith
 
-pub invariant-lawful : (a : View) (h : History) (order : List Transaction) → Invariant a (read_off h) order → Lawful h a.shared
-invariant-lawful a h order inv = record {
+pub invariant_lawful : (a : View) (h : History) (order : List Transaction) → Invariant a (read_off h) order → Lawful h a.shared
+invariant_lawful a h order inv = record {
   serial_order = record {
     order = order;
     each_once = inv.each_once;
@@ -91,7 +91,7 @@ module _ {P : Type 0} (facts : P → Facts) (after : P → Move → P → Type 0
       record { order = k.0; invariant = k.1; sound = step_sound facts after strict keeps proper s g.sound }
 
   pub law : LawStands facts after strict
-  law a b h n run = let g : Reached b h = run_reaches n run in invariant-lawful (view facts b) h g.order g.invariant
+  law a b h n run = let g : Reached b h = run_reaches n run in invariant_lawful (view facts b) h g.order g.invariant
 
   pub stays_sound : StaysSound facts after strict
   stays_sound = record { new = λ a n. new_sound facts n; step = λ c r a b s sound. step_sound facts after strict keeps proper s sound }

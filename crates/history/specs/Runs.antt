@@ -10,10 +10,10 @@ use Rattle.history.specs.Transactions.{policy_refused, Transaction, Ledger, Hist
 use Rattle.history.specs.Law.{Lasts, Known, Lawful}
 
 -- a task at this stage has a transaction
-abbrev pub in-transaction : Stage → Bool
-in-transaction idle = false
-in-transaction active = true
-in-transaction broken = false
+abbrev pub in_transaction : Stage → Bool
+in_transaction idle = false
+in_transaction active = true
+in_transaction broken = false
 
 -- U, of another task, was open during T's life
 pub record Overlaps (L : Ledger) (U T : Transaction) : Type 0 where
@@ -30,7 +30,7 @@ UnrefusedAlone h =
 module _ {P : Type 0} (facts : P → Facts) where
   -- stages and policy agree: a task is active exactly if the policy has it active, and only what it has written is pending
   pub record Sound (a : State P) : Type 0 where
-    pub agree : (t : ℕ) → (facts a.policy).active t ≡ in-transaction (a.stage t)
+    pub agree : (t : ℕ) → (facts a.policy).active t ≡ in_transaction (a.stage t)
     pub unwritten : (t v : ℕ) → (facts a.policy).writes t v ≡ false → a.pending t v ≡ pos 0
 
   -- a new table: no task has a transaction, nothing is pending, and every shared value is 0

@@ -5,16 +5,16 @@ use Rattle.history.specs.Transactions.{Fate, unended, committed, aborted, policy
 use Rattle.history.specs.Alone.{nothing_pending, Exact, run_alone}
 
 -- a transaction is kept if this is the end of a committed one
-abbrev pub if-committed : Fate → Transaction → List Transaction → List Transaction
-if-committed unended T Ts = Ts
-if-committed committed T Ts = T ∷ Ts
-if-committed aborted T Ts = Ts
-if-committed (policy_refused asked passed) T Ts = Ts
+abbrev pub if_committed : Fate → Transaction → List Transaction → List Transaction
+if_committed unended T Ts = Ts
+if_committed committed T Ts = T ∷ Ts
+if_committed aborted T Ts = Ts
+if_committed (policy_refused asked passed) T Ts = Ts
 
 -- the committed ones of some transactions
 abbrev pub all_committed : List Transaction → List Transaction
 all_committed [] = []
-all_committed (T ∷ Ts) = if-committed T.fate T (all_committed Ts)
+all_committed (T ∷ Ts) = if_committed T.fate T (all_committed Ts)
 
 -- the shared values after some transactions, each run alone, one after another
 abbrev pub replay : (ℕ → ℤ) → List Transaction → ℕ → ℤ

@@ -3,7 +3,7 @@ use Rattle.std.specs.Prelude.{◌≡◌, ℕ, Bool, ◌≢◌, List, [], ◌∷�
 use mathlib.Core.List.{Memᴰ}
 use Rattle.policy.specs.Facts.{Facts}
 use Rattle.policy.specs.Moves.{Move, read_refused, write_refused, commit_refused}
-use Rattle.policy.specs.Moves.{begin as begins, read as reads-variable, write as writes-variable, commit as commits, abort as aborts}
+use Rattle.policy.specs.Moves.{begin as begins, read as reads_variable, write as writes_variable, commit as commits, abort as aborts}
 use Rattle.history.specs.Update.{at}
 use Rattle.history.specs.Calls.{Call, begin, read, write, collect, snapshot, commit, abort, task, before}
 use Rattle.history.specs.Calls.{Barred, read_barred, write_barred, commit_barred, sent_wrongly, at_wrong_time, by_policy, Answer, done, value, values, refused}
@@ -21,13 +21,13 @@ abbrev pub zeros : ℕ → ℤ
 zeros v = pos 0
 
 -- by an answer: one thing if the call was granted, one if the policy refused it, one if the policy was never asked
-abbrev pub in-case : {A : Type 0} → Answer → A → (Barred → A) → A → A
-in-case done ok bar unasked = ok
-in-case (value x) ok bar unasked = ok
-in-case (values xs count) ok bar unasked = ok
-in-case (refused (sent_wrongly why)) ok bar unasked = unasked
-in-case (refused (at_wrong_time why)) ok bar unasked = unasked
-in-case (refused (by_policy why)) ok bar unasked = bar why
+abbrev pub in_case : {A : Type 0} → Answer → A → (Barred → A) → A → A
+in_case done ok bar unasked = ok
+in_case (value x) ok bar unasked = ok
+in_case (values xs count) ok bar unasked = ok
+in_case (refused (sent_wrongly why)) ok bar unasked = unasked
+in_case (refused (at_wrong_time why)) ok bar unasked = unasked
+in_case (refused (by_policy why)) ok bar unasked = bar why
 
 -- the variables of a list that were read before the policy refused one
 abbrev pub passed_over : Barred → List ℕ → List ℕ
@@ -38,10 +38,10 @@ passed_over commit_barred vs = []
 -- the variables whose reads the policy granted to a call, in order
 abbrev pub granted_reads : Call → Answer → List ℕ
 granted_reads (begin t) r = []
-granted_reads (read t v) r = in-case r (v ∷ []) (λ why. []) []
+granted_reads (read t v) r = in_case r (v ∷ []) (λ why. []) []
 granted_reads (write t v x) r = []
-granted_reads (collect t vs room) r = in-case r vs (λ why. passed_over why vs) []
-granted_reads (snapshot t vs room) r = in-case r vs (λ why. passed_over why vs) []
+granted_reads (collect t vs room) r = in_case r vs (λ why. passed_over why vs) []
+granted_reads (snapshot t vs room) r = in_case r vs (λ why. passed_over why vs) []
 granted_reads (commit t) r = []
 granted_reads (abort t) r = []
 
@@ -57,7 +57,7 @@ first_moves (begin t) r = []
 first_moves (read t v) r = []
 first_moves (write t v x) r = []
 first_moves (collect t vs room) r = []
-first_moves (snapshot t vs room) r = in-case r (begins t ∷ []) (λ why. begins t ∷ []) []
+first_moves (snapshot t vs room) r = in_case r (begins t ∷ []) (λ why. begins t ∷ []) []
 first_moves (commit t) r = []
 first_moves (abort t) r = []
 
@@ -75,13 +75,13 @@ refused_read t commit_barred = []
 
 -- what the policy is asked besides a snapshot's begin and granted reads; s is the task's stage before the call
 abbrev pub last_moves : Call → Stage → Answer → List Move
-last_moves (begin t) s r = in-case r (begins t ∷ []) (λ why. []) []
-last_moves (read t v) s r = in-case r [] (λ why. read_refused t v ∷ []) []
-last_moves (write t v x) s r = in-case r (writes-variable t v ∷ []) (λ why. write_refused t v ∷ []) []
-last_moves (collect t vs room) s r = in-case r [] (refused_read t) []
-last_moves (snapshot t vs room) s r = in-case r (commits t ∷ []) (refused_read t) []
-last_moves (commit t) s r = in-case r (commits t ∷ []) (λ why. commit_refused t ∷ []) []
-last_moves (abort t) s r = in-case r (abort_moves t s) (λ why. []) []
+last_moves (begin t) s r = in_case r (begins t ∷ []) (λ why. []) []
+last_moves (read t v) s r = in_case r [] (λ why. read_refused t v ∷ []) []
+last_moves (write t v x) s r = in_case r (writes_variable t v ∷ []) (λ why. write_refused t v ∷ []) []
+last_moves (collect t vs room) s r = in_case r [] (refused_read t) []
+last_moves (snapshot t vs room) s r = in_case r (commits t ∷ []) (refused_read t) []
+last_moves (commit t) s r = in_case r (commits t ∷ []) (λ why. commit_refused t ∷ []) []
+last_moves (abort t) s r = in_case r (abort_moves t s) (λ why. []) []
 
 -- a commit leaves its task idle, unless it was sent wrongly
 abbrev pub after_commit : Answer → Stage → Stage
@@ -94,23 +94,23 @@ after_commit (refused (by_policy why)) s = idle
 
 -- the stage of the call's task after it
 abbrev pub stage_after : Call → Answer → Stage → Stage
-stage_after (begin t) r s = in-case r active (λ why. s) s
-stage_after (read t v) r s = in-case r s (λ why. broken) s
-stage_after (write t v x) r s = in-case r s (λ why. broken) s
-stage_after (collect t vs room) r s = in-case r s (λ why. broken) s
+stage_after (begin t) r s = in_case r active (λ why. s) s
+stage_after (read t v) r s = in_case r s (λ why. broken) s
+stage_after (write t v x) r s = in_case r s (λ why. broken) s
+stage_after (collect t vs room) r s = in_case r s (λ why. broken) s
 stage_after (snapshot t vs room) r s = s
 stage_after (commit t) r s = after_commit r s
-stage_after (abort t) r s = in-case r idle (λ why. s) s
+stage_after (abort t) r s = in_case r idle (λ why. s) s
 
 -- the pending values of the call's task after it: the end of a transaction drops them all
 abbrev pub pending_after : Call → Answer → (ℕ → ℤ) → ℕ → ℤ
-pending_after (begin t) r p = in-case r zeros (λ why. p) p
-pending_after (read t v) r p = in-case r p (λ why. zeros) p
-pending_after (write t v x) r p = in-case r (at p v x) (λ why. zeros) p
-pending_after (collect t vs room) r p = in-case r p (λ why. zeros) p
+pending_after (begin t) r p = in_case r zeros (λ why. p) p
+pending_after (read t v) r p = in_case r p (λ why. zeros) p
+pending_after (write t v x) r p = in_case r (at p v x) (λ why. zeros) p
+pending_after (collect t vs room) r p = in_case r p (λ why. zeros) p
 pending_after (snapshot t vs room) r p = p
-pending_after (commit t) r p = in-case r zeros (λ why. zeros) p
-pending_after (abort t) r p = in-case r zeros (λ why. p) p
+pending_after (commit t) r p = in_case r zeros (λ why. zeros) p
+pending_after (abort t) r p = in_case r zeros (λ why. p) p
 
 -- the shared values after a call: a granted commit shares what its task sees
 abbrev pub shared_after : Call → Answer → (ℕ → ℤ) → (ℕ → ℤ) → ℕ → ℤ
@@ -119,7 +119,7 @@ shared_after (read t v) r see s = s
 shared_after (write t v x) r see s = s
 shared_after (collect t vs room) r see s = s
 shared_after (snapshot t vs room) r see s = s
-shared_after (commit t) r see s = in-case r see (λ why. s) s
+shared_after (commit t) r see s = in_case r see (λ why. s) s
 shared_after (abort t) r see s = s
 
 -- the policy makes some moves, one after another
@@ -148,7 +148,7 @@ module _ {P : Type 0} (facts : P → Facts) (after : P → Move → P → Type 0
     pub answered : r ≡ answer facts strict c a opened (length reads)
     pub opening : Chain after (first_moves c r) a.policy opened
     pub reads_made : ReadsFor (granted_reads c r) reads
-    pub reading : Chain after (map (reads-variable (task c)) reads) opened between
+    pub reading : Chain after (map (reads_variable (task c)) reads) opened between
     pub closing : Chain after (last_moves c (a.stage (task c)) r) between b.policy
     pub stage : b.stage (task c) ≡ stage_after c r (a.stage (task c))
     pub pending : (v : ℕ) → b.pending (task c) v ≡ pending_after c r (a.pending (task c)) v

@@ -3,7 +3,7 @@ use Rattle.std.specs.Prelude.{ℕ, List, [], ◌∷◌, ◌++◌, length, ℤ}
 use Rattle.std.proofs.Math.Option.{Option, none, some}
 use Rattle.history.specs.Update.{at}
 use Rattle.history.specs.Calls.{Call, begin, read, write, collect, snapshot, commit, abort, before, Barred, read_barred, write_barred, commit_barred, Answer, done, value, values, refused}
-use Rattle.history.specs.Steps.{in-case}
+use Rattle.history.specs.Steps.{in_case}
 
 -- a call with its answer, and the shared values after it
 pub record Entry : Type 0 where
@@ -72,13 +72,13 @@ end_by commit_barred vs = policy_refused none []
 
 -- what call n adds, by its answer
 abbrev pub addition : ℕ → Call → Answer → Addition
-addition n (begin t) r = in-case r (opens t) (λ why. nothing) nothing
-addition n (read t v) r = in-case r (adds t (gots n (v ∷ []) (replied r))) (λ why. ends t (end_by why [])) nothing
-addition n (write t v x) r = in-case r (adds t (put n v x ∷ [])) (λ why. ends t (end_by why [])) nothing
-addition n (collect t vs room) r = in-case r (adds t (gots n vs (replied r))) (λ why. ends t (end_by why vs)) nothing
-addition n (snapshot t vs room) r = in-case r (whole t (gots n vs (replied r)) committed) (λ why. whole t [] (end_by why vs)) nothing
-addition n (commit t) r = in-case r (ends t committed) (λ why. ends t (end_by why [])) nothing
-addition n (abort t) r = in-case r (ends t aborted) (λ why. nothing) nothing
+addition n (begin t) r = in_case r (opens t) (λ why. nothing) nothing
+addition n (read t v) r = in_case r (adds t (gots n (v ∷ []) (replied r))) (λ why. ends t (end_by why [])) nothing
+addition n (write t v x) r = in_case r (adds t (put n v x ∷ [])) (λ why. ends t (end_by why [])) nothing
+addition n (collect t vs room) r = in_case r (adds t (gots n vs (replied r))) (λ why. ends t (end_by why vs)) nothing
+addition n (snapshot t vs room) r = in_case r (whole t (gots n vs (replied r)) committed) (λ why. whole t [] (end_by why vs)) nothing
+addition n (commit t) r = in_case r (ends t committed) (λ why. ends t (end_by why [])) nothing
+addition n (abort t) r = in_case r (ends t aborted) (λ why. nothing) nothing
 
 -- a transaction that has begun in call n
 abbrev pub begun : ℕ → ℕ → Transaction

@@ -9,7 +9,7 @@ use Rattle.schedule.specs.declared.fault.TextFault.TheVariants.{TooLong}
 use Rattle.policy.specs.Facts.{Facts}
 use Rattle.policy.specs.Moves.{Move}
 use Rattle.eager.specs.declared.Eager.{Eager}
-use Rattle.eager.specs.Layer.{fenced, After as Layer-after}
+use Rattle.eager.specs.Layer.{fenced, After as LayerAfter}
 use Rattle.table.specs.Faults.{numbered}
 use Rattle.table.specs.declared.fault.TableFault.{TableFault}
 use Rattle.play.specs.declared.outcome.NoRoom.{NoRoom}
@@ -96,8 +96,8 @@ module _ {P : Type 0} (facts : P → Facts) (after : P → Move → P → Type 0
 
   -- the same under the eager layer
   pub eager_fronts : (q : Eager P) (p : P) (ls : List (List ℕ)) (s t : List ℕ) (r : Result ℕ NoRoom) → q.below ≡ p → Starts p
-      → Fronts (Over {P = Eager P} (λ x. fenced (facts x.below)) (λ x m y. Layer-after facts strict after x.below m y.below) strict q) ls s r t
+      → Fronts (Over {P = Eager P} (λ x. fenced (facts x.below)) (λ x m y. LayerAfter facts strict after x.below m y.below) strict q) ls s r t
       → Fronts (FromEager facts after strict Starts) ls s r t
   eager_fronts q p ls s t r e h =
-      fronts_so (Over {P = Eager P} (λ x. fenced (facts x.below)) (λ x m y. Layer-after facts strict after x.below m y.below) strict q)
+      fronts_so (Over {P = Eager P} (λ x. fenced (facts x.below)) (λ x m y. LayerAfter facts strict after x.below m y.below) strict q)
       (FromEager facts after strict Starts) ls s t r (λ done out x. record { policy = q; starts = subst Starts (sym e) h; over = x })

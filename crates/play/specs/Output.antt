@@ -10,18 +10,18 @@ use Rattle.schedule.specs.declared.fault.TextFault.{TextFault}
 use Rattle.policy.specs.Facts.{Facts}
 use Rattle.policy.specs.Moves.{Move}
 use Rattle.transactions.specs.Sets.{no_transactions}
-use Rattle.lock.specs.declared.Lock.{Lock as Lock-policy}
-use Rattle.lock.specs.After.{held as locks-held, facts as lock-facts, After as Lock-after}
-use Rattle.own.specs.declared.Own.{Own as Own-policy}
+use Rattle.lock.specs.declared.Lock.{Lock as LockPolicy}
+use Rattle.lock.specs.After.{held as locks_held, facts as lock_facts, After as LockAfter}
+use Rattle.own.specs.declared.Own.{Own as OwnPolicy}
 use Rattle.own.specs.Ownership.{idle as none_owned}
-use Rattle.own.specs.After.{state as ownership, facts as own-facts, After as Own-after}
-use Rattle.clock.specs.declared.state.Clock.{Clock as Clock-policy}
+use Rattle.own.specs.After.{state as ownership, facts as own_facts, After as OwnAfter}
+use Rattle.clock.specs.declared.state.Clock.{Clock as ClockPolicy}
 use Rattle.clock.specs.Held.{meaning}
 use Rattle.clock.specs.Steps.{new_policy}
 use Rattle.clock.specs.Clocks.{held as clock_held}
-use Rattle.clock.specs.After.{After as Clock-after}
-use Rattle.eager.specs.declared.Eager.{Eager as Eager-policy}
-use Rattle.eager.specs.Layer.{fenced, After as Layer-after}
+use Rattle.clock.specs.After.{After as ClockAfter}
+use Rattle.eager.specs.declared.Eager.{Eager as EagerPolicy}
+use Rattle.eager.specs.Layer.{fenced, After as LayerAfter}
 use Rattle.table.specs.Faults.{numbered}
 use Rattle.table.specs.declared.fault.TableFault.{TableFault}
 use Rattle.play.specs.declared.outcome.NoRoom.{NoRoom}
@@ -35,33 +35,33 @@ pub record From {P : Type 0} (facts : P → Facts) (after : P → Move → P →
   pub starts : Starts policy
   pub over : Over facts after strict policy ls out
 
-abbrev pub clock_facts : Clock-policy → Facts
+abbrev pub clock_facts : ClockPolicy → Facts
 clock_facts p = meaning (clock_held p)
 
 -- the same under the eager layer
 abbrev pub FromEager : {P : Type 0} → (P → Facts) → (P → Move → P → Type 0) → Bool → (P → Type 0) → List (List ℕ) → List ℕ → Type 0
 FromEager {P} facts after strict Starts =
-    From {P = Eager-policy P} (λ p. fenced (facts p.below)) (λ p m q. Layer-after facts strict after p.below m q.below) strict
+    From {P = EagerPolicy P} (λ p. fenced (facts p.below)) (λ p m q. LayerAfter facts strict after p.below m q.below) strict
     (λ p. Starts p.below)
 
 -- a new policy: no task has a transaction, and the clock is 0
-abbrev pub NewLock : Lock-policy → Type 0
-NewLock p = locks-held p ≡ no_transactions
+abbrev pub NewLock : LockPolicy → Type 0
+NewLock p = locks_held p ≡ no_transactions
 
-abbrev pub NewOwn : Own-policy → Type 0
+abbrev pub NewOwn : OwnPolicy → Type 0
 NewOwn p = ownership p ≡ none_owned
 
-abbrev pub NewClock : Clock-policy → Type 0
+abbrev pub NewClock : ClockPolicy → Type 0
 NewClock p = clock_held p ≡ new_policy 0
 
 -- what is printed over the policy of a choice
 abbrev pub Runs : Choice → List (List ℕ) → List ℕ → Type 0
-Runs (Plain Lock) = From lock-facts Lock-after true NewLock
-Runs (Plain Own) = From own-facts Own-after true NewOwn
-Runs (Plain Clock) = From clock_facts Clock-after false NewClock
-Runs (Eager Lock) = FromEager lock-facts Lock-after true NewLock
-Runs (Eager Own) = FromEager own-facts Own-after true NewOwn
-Runs (Eager Clock) = FromEager clock_facts Clock-after false NewClock
+Runs (Plain Lock) = From lock_facts LockAfter true NewLock
+Runs (Plain Own) = From own_facts OwnAfter true NewOwn
+Runs (Plain Clock) = From clock_facts ClockAfter false NewClock
+Runs (Eager Lock) = FromEager lock_facts LockAfter true NewLock
+Runs (Eager Own) = FromEager own_facts OwnAfter true NewOwn
+Runs (Eager Clock) = FromEager clock_facts ClockAfter false NewClock
 
 -- what is printed by a first line and the lines after it: a text that has no policy is refused in one line
 abbrev pub Says : Result Choice (TextFault TableFault) → List (List ℕ) → List ℕ → Type 0

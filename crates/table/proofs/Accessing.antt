@@ -4,7 +4,7 @@ use mathlib.Core.Option.{none}
 use Rattle.policy.specs.Limits.{tasks}
 use Rattle.policy.specs.Facts.{Facts, may_read, may_write}
 use Rattle.policy.specs.Moves.{Move, read_refused, write_refused}
-use Rattle.policy.specs.Moves.{read as reads-variable, write as writes-variable}
+use Rattle.policy.specs.Moves.{read as reads_variable, write as writes_variable}
 use Rattle.policy.specs.Answers.{Moved, read_answer, write_answer, fit_access}
 use Rattle.policy.specs.declared.PolicyFault.{PolicyFault}
 use Rattle.policy.specs.declared.PolicyFault.TheVariants.{ReadBarred, WriteBarred}
@@ -39,7 +39,7 @@ module _ {P : Type 0} (facts : P → Facts) (after : P → Move → P → Type 0
       fit_access_at (facts p) t v (stage_of (get_or xs t Idle)) h.0 h.1 (sound.agree t) ok.1
 
   pub read_granted : (y : ℤ) (g : Granted) → y ≡ look (facts p) (state p xs ss).pending (state p xs ss).shared t v
-      → Ok g ≡ read_answer (facts p) t v → after p (reads-variable t v) q
+      → Ok g ≡ read_answer (facts p) t v → after p (reads_variable t v) q
       → Step facts after strict (read t v) (state p xs ss) (value y) (state q xs ss)
   read_granted y g seen e move = record {
     opened = p;
@@ -66,7 +66,7 @@ module _ {P : Type 0} (facts : P → Facts) (after : P → Move → P → Type 0
       → Makes facts after strict c (state p xs ss) (refusing (refusal_of (refused_single f))) (state q ys ss)
   known c f why ys e m = subst (λ (x : PolicyFault). Makes facts after strict c (state p xs ss) (refusing (refusal_of (refused_single x))) (state q ys ss)) (sym e) m
 
-  pub read_refused_by : (f : PolicyFault) → Err f ≡ read_answer (facts p) t v → Moved after (reads-variable t v) (read_refused t v) p q (Err f)
+  pub read_refused_by : (f : PolicyFault) → Err f ≡ read_answer (facts p) t v → Moved after (reads_variable t v) (read_refused t v) p q (Err f)
       → Makes facts after strict (read t v) (state p xs ss) (refusing (refusal_of (refused_single f))) (state q (set xs t Broken) ss)
   read_refused_by f e moved =
       known (read t v) f (ReadBarred v) (set xs t Broken) why.1
@@ -77,9 +77,9 @@ module _ {P : Type 0} (facts : P → Facts) (after : P → Move → P → Type 0
       why = answer_err (fit_access (facts p) t v) (may_read (facts p) t v) (ReadBarred v) fit e
 
       move : after p (read_refused t v) q
-      move = subst (λ (x : PolicyFault). Moved after (reads-variable t v) (read_refused t v) p q (Err x)) why.1 moved
+      move = subst (λ (x : PolicyFault). Moved after (reads_variable t v) (read_refused t v) p q (Err x)) why.1 moved
 
-  pub write_granted : (y : ℤ) (g : Granted) → Whole (get_or xs t Idle) → Ok g ≡ write_answer (facts p) t v → after p (writes-variable t v) q
+  pub write_granted : (y : ℤ) (g : Granted) → Whole (get_or xs t Idle) → Ok g ≡ write_answer (facts p) t v → after p (writes_variable t v) q
       → Step facts after strict (write t v y) (state p xs ss) done (state q (set xs t (with_pending (get_or xs t Idle) v y)) ss)
   write_granted y g whole e move =
       plain_step facts after strict (write t v y) done p q xs (set xs t next) next ss ss refl refl
@@ -92,7 +92,7 @@ module _ {P : Type 0} (facts : P → Facts) (after : P → Move → P → Type 0
       may : may_write (facts p) t v ≡ true
       may = answer_ok (fit_access (facts p) t v) (may_write (facts p) t v) (WriteBarred v) e
 
-  pub write_refused_by : (y : ℤ) (f : PolicyFault) → Err f ≡ write_answer (facts p) t v → Moved after (writes-variable t v) (write_refused t v) p q (Err f)
+  pub write_refused_by : (y : ℤ) (f : PolicyFault) → Err f ≡ write_answer (facts p) t v → Moved after (writes_variable t v) (write_refused t v) p q (Err f)
       → Makes facts after strict (write t v y) (state p xs ss) (refusing (refusal_of (refused_single f))) (state q (set xs t Broken) ss)
   write_refused_by y f e moved =
       known (write t v y) f (WriteBarred v) (set xs t Broken) why.1
@@ -103,4 +103,4 @@ module _ {P : Type 0} (facts : P → Facts) (after : P → Move → P → Type 0
       why = answer_err (fit_access (facts p) t v) (may_write (facts p) t v) (WriteBarred v) fit e
 
       move : after p (write_refused t v) q
-      move = subst (λ (x : PolicyFault). Moved after (writes-variable t v) (write_refused t v) p q (Err x)) why.1 moved
+      move = subst (λ (x : PolicyFault). Moved after (writes_variable t v) (write_refused t v) p q (Err x)) why.1 moved

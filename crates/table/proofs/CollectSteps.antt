@@ -7,7 +7,7 @@ use Rattle.policy.specs.Moves.{Move, Keeps}
 use Rattle.history.specs.Calls.{collect, listed, Refusal, Wrong, Untimely, Answer, values, refused, read_barred, by_policy}
 use Rattle.history.specs.Answers.{look, must_be_active, wrong_list}
 use Rattle.history.specs.Steps.{State, Step, sees}
-use Rattle.history.specs.Runs.{Sound, in-transaction}
+use Rattle.history.specs.Runs.{Sound, in_transaction}
 use Rattle.history.proofs.Outcomes.{is_active}
 use Rattle.history.proofs.Collecting.{collect_step, collect_barred}
 use Rattle.table.specs.Faults.{refusal_of}
@@ -47,7 +47,7 @@ module _ {P : Type 0} (facts : P → Facts) (after : P → Move → P → Type 0
     (fine : wrong_list t vs room ≡ none) (timely : must_be_active (stage_of (get_or xs t Idle)) ≡ none) (sound : Sound facts (state p xs ss)) where
   -- the policy has the task in a transaction
   in_one : (facts p).active t ≡ true
-  in_one = sound.agree t ∙ ap in-transaction (is_active (stage_of (get_or xs t Idle)) timely)
+  in_one = sound.agree t ∙ ap in_transaction (is_active (stage_of (get_or xs t Idle)) timely)
 
   -- the table after the reads, but for the stage of the task
   after_reads : state q zs ws ≡ state q xs ss

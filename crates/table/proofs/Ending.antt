@@ -11,9 +11,9 @@ use Rattle.policy.specs.declared.PolicyFault.{PolicyFault}
 use Rattle.policy.specs.declared.PolicyFault.TheVariants.{Unfit, CommitRefused}
 use Rattle.policy.specs.declared.Granted.{Granted}
 use Rattle.history.specs.Calls.{commit, abort, Untimely, commit_barred, by_policy, done, refused}
-use Rattle.history.specs.Answers.{Stage as History-stage, idle, active, broken, must_be_active, must_not_be_idle, look}
+use Rattle.history.specs.Answers.{Stage as HistoryStage, idle, active, broken, must_be_active, must_not_be_idle, look}
 use Rattle.history.specs.Steps.{Step, Chain, abort_moves}
-use Rattle.history.specs.Runs.{Sound, in-transaction}
+use Rattle.history.specs.Runs.{Sound, in_transaction}
 use Rattle.table.specs.Faults.{refusal_of, refused_single}
 use Rattle.table.specs.Views.{stage_of, pending_in, state, refusing, Makes}
 use Rattle.table.specs.Checks.{passed, task_wrong, once_called, all_once_called}
@@ -98,7 +98,7 @@ module _ {P : Type 0} (facts : P → Facts) (after : P → Move → P → Type 0
         move = subst (λ (y : PolicyFault). Moved after (commits t) (commit_refused t) p q (Err y)) why.1 moved
 
   -- an abort ends what the policy still has
-  aborted : (s : History-stage) (r : Result Granted PolicyFault) → ltb t tasks ≡ true → (facts p).active t ≡ in-transaction s → must_not_be_idle s ≡ none
+  aborted : (s : HistoryStage) (r : Result Granted PolicyFault) → ltb t tasks ≡ true → (facts p).active t ≡ in_transaction s → must_not_be_idle s ≡ none
       → r ≡ abort_answer (facts p) t → Moved after (aborts t) (aborts t) p q r → Chain after (abort_moves t s) p q
   aborted idle r b a i e m = let z : ◌≡◌ {A = ℕ} 0 1 = cc in absurd (omega arith)
   aborted active r b a i e m =

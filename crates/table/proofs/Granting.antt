@@ -7,7 +7,7 @@ use Rattle.policy.specs.Answers.{answer, fit_task, fit_access}
 use Rattle.policy.specs.declared.PolicyFault.{PolicyFault}
 use Rattle.policy.specs.declared.Granted.{Granted}
 use Rattle.history.specs.Answers.{Stage, must_be_active}
-use Rattle.history.specs.Runs.{in-transaction}
+use Rattle.history.specs.Runs.{in_transaction}
 use Rattle.history.proofs.Outcomes.{is_active}
 
 -- granted: the facts allow it
@@ -24,15 +24,15 @@ answer_err true false why fits e = (refl, cc)
 answer_err false may why fits e = let z : ◌≡◌ {A = ℕ} 0 1 = cc in absurd (omega arith)
 
 -- a task in a transaction may ask the policy
-pub fit_at : (f : Facts) (t : ℕ) (s : Stage) → t < tasks → f.active t ≡ in-transaction s → must_be_active s ≡ none → fit_task f t ≡ true
+pub fit_at : (f : Facts) (t : ℕ) (s : Stage) → t < tasks → f.active t ≡ in_transaction s → must_be_active s ≡ none → fit_task f t ≡ true
 fit_at f t s h e i =
-    let a : f.active t ≡ true = e ∙ ap in-transaction (is_active s i) in
+    let a : f.active t ≡ true = e ∙ ap in_transaction (is_active s i) in
     let b : ltb t tasks ≡ true = grind arith in
     rw (b, a)
 
-pub fit_access_at : (f : Facts) (t v : ℕ) (s : Stage) → t < tasks → v < variables → f.active t ≡ in-transaction s → must_be_active s ≡ none → fit_access f t v ≡ true
+pub fit_access_at : (f : Facts) (t v : ℕ) (s : Stage) → t < tasks → v < variables → f.active t ≡ in_transaction s → must_be_active s ≡ none → fit_access f t v ≡ true
 fit_access_at f t v s h k e i =
-    let a : f.active t ≡ true = e ∙ ap in-transaction (is_active s i) in
+    let a : f.active t ≡ true = e ∙ ap in_transaction (is_active s i) in
     let b : ltb t tasks ≡ true = grind arith in
     let d : ltb v variables ≡ true = grind arith in
     rw (b, d, a)

@@ -4,7 +4,7 @@ use Rattle.std.proofs.lemmas.List.{take_all, take_more, take_more_set, map_more}
 use Rattle.policy.specs.Limits.{variables}
 use Rattle.policy.specs.Facts.{Facts, Proper, may_read}
 use Rattle.policy.specs.Moves.{Move, Keeps, read_refused}
-use Rattle.policy.specs.Moves.{read as reads-variable}
+use Rattle.policy.specs.Moves.{read as reads_variable}
 use Rattle.policy.specs.Answers.{fit_access, read_answer, Moved}
 use Rattle.policy.specs.declared.PolicyFault.{PolicyFault}
 use Rattle.policy.specs.declared.PolicyFault.TheVariants.{ReadBarred}
@@ -44,7 +44,7 @@ module _ {P : Type 0} (facts : P → Facts) (after : P → Move → P → Type 0
           λ j. cond (w j) (pending_in (get_or (a j) t Idle) v) (get_or (b j) v (pos 0))
 
       -- one more read was granted, and its value is put into the buffer
-      pub one_more : (x : ℤ) → i < length buffer → u.stages ≡ s.stages → u.shared ≡ s.shared → after u.policy (reads-variable t (get_or vs i 0)) q
+      pub one_more : (x : ℤ) → i < length buffer → u.stages ≡ s.stages → u.shared ≡ s.shared → after u.policy (reads_variable t (get_or vs i 0)) q
           → x ≡ sight facts u t (get_or vs i 0) → ReadBefore facts after t vs s (i + 1) q (set buffer i x)
       one_more x room stages shared m e = (reads, values)
         where
@@ -53,7 +53,7 @@ module _ {P : Type 0} (facts : P → Facts) (after : P → Move → P → Type 0
 
           reads : GrantedReads facts after t (take (i + 1) vs) s.policy q (i + 1)
           reads =
-              let more = collect_one facts after strict keeps t v q begun (collecting earlier.0) (keeps u.policy q (reads-variable t v) m).granted m in
+              let more = collect_one facts after strict keeps t v q begun (collecting earlier.0) (keeps u.policy q (reads_variable t v) m).granted m in
               rw (take_more vs i 0 here, add-one i) (collected more)
 
           same : x ≡ sight facts s t v
@@ -64,7 +64,7 @@ module _ {P : Type 0} (facts : P → Facts) (after : P → Move → P → Type 0
 
       -- the policy refused the read at place i
       pub barred_at : {x : PolicyFault} → Proper (facts u.policy) → get_or vs i 0 < variables
-          → Err x ≡ read_answer (facts u.policy) t (get_or vs i 0) → Moved after (reads-variable t (get_or vs i 0)) (read_refused t (get_or vs i 0)) u.policy q (Err x)
+          → Err x ≡ read_answer (facts u.policy) t (get_or vs i 0) → Moved after (reads_variable t (get_or vs i 0)) (read_refused t (get_or vs i 0)) u.policy q (Err x)
           → RefusedRead facts after t vs s.policy q (Refused (Listed i) x)
       barred_at {x} proper k e m = record {
         place = i;
@@ -73,7 +73,7 @@ module _ {P : Type 0} (facts : P → Facts) (after : P → Move → P → Type 0
         count = i;
         earlier = earlier.0;
         barred = bar.0;
-        move = subst (λ (y : PolicyFault). Moved after (reads-variable t v) (read_refused t v) u.policy q (Err y)) bar.1 m;
+        move = subst (λ (y : PolicyFault). Moved after (reads_variable t v) (read_refused t v) u.policy q (Err y)) bar.1 m;
         told = ap (λ (y : PolicyFault). Refused (Listed i) y) bar.1;
       }
         where

@@ -4,7 +4,7 @@ use mathlib.Core.Option.{Option, none, some}
 use Rattle.policy.specs.Facts.{Facts, Proper}
 use Rattle.policy.specs.Moves.{Move, Keeps}
 use Rattle.history.specs.Calls.{Call, begin, read, write, collect, snapshot, commit, abort, task, Refusal, Wrong, Untimely, Answer, refused, sent_wrongly, at_wrong_time}
-use Rattle.history.specs.Answers.{Stage as History-stage, wrong, untimely, barred, granted, checked}
+use Rattle.history.specs.Answers.{Stage as HistoryStage, wrong, untimely, barred, granted, checked}
 use Rattle.history.specs.Steps.{State, Step, Chain, ReadsFor, none_made, answer, sees, first_moves, granted_reads, last_moves, stage_after, pending_after, shared_after}
 use Rattle.history.specs.Runs.{Sound}
 use Rattle.history.proofs.Soundness.{step_sound}
@@ -19,7 +19,7 @@ use Rattle.table.proofs.Checking.{passed_err, wrong_refusal, untimely_refusal}
 use Rattle.table.proofs.Stages.{Put, put_same}
 
 -- a call that was sent wrongly leaves the stage of its task
-wrong_stage : (c : Call) (x : Wrong) (s : History-stage) → stage_after c (refused (sent_wrongly x)) s ≡ s
+wrong_stage : (c : Call) (x : Wrong) (s : HistoryStage) → stage_after c (refused (sent_wrongly x)) s ≡ s
 wrong_stage (begin t) x s = refl
 wrong_stage (read t v) x s = refl
 wrong_stage (write t v y) x s = refl
@@ -80,7 +80,7 @@ module _ {P : Type 0} (facts : P → Facts) (after : P → Move → P → Type 0
       → Makes facts after strict c (state p xs ss) (refusing (refusal_of f)) (state p ys ss)
   refused_step c f p xs ys s ss e put kept late pending = go (passed_err (wrong c) (untimely c before) e)
     where
-      before : History-stage
+      before : HistoryStage
       before = stage_of (get_or xs (task c) Idle)
 
       answer_is : (w : Option Wrong) (y : Option Untimely) → wrong c ≡ w → untimely c before ≡ y
@@ -109,7 +109,7 @@ module _ {P : Type 0} (facts : P → Facts) (after : P → Move → P → Type 0
   pub unmoved_step : (c : Call) (f : TableFault) (p : P) (xs ys : List Stage) (ss : List ℤ)
       → Err f ≡ passed (wrong c) (untimely c (stage_of (get_or xs (task c) Idle)))
       → ys ≡ xs
-      → ((x : Untimely) (s : History-stage) → stage_after c (refused (at_wrong_time x)) s ≡ s)
+      → ((x : Untimely) (s : HistoryStage) → stage_after c (refused (at_wrong_time x)) s ≡ s)
       → Makes facts after strict c (state p xs ss) (refusing (refusal_of f)) (state p ys ss)
   unmoved_step c f p xs ys ss e same late =
       subst (λ (zs : List Stage). Makes facts after strict c (state p xs ss) (refusing (refusal_of f)) (state p zs ss)) (sym same)

@@ -3,7 +3,7 @@ use Rattle.std.specs.Prelude.{◌≡◌, ℕ, ◌<◌, true, false, List, map, l
 use Rattle.std.proofs.Math.Option.{Option, none, some}
 use Rattle.policy.specs.Facts.{Facts, may_read}
 use Rattle.policy.specs.Moves.{Move, read_refused}
-use Rattle.policy.specs.Moves.{read as reads-variable}
+use Rattle.policy.specs.Moves.{read as reads_variable}
 use Rattle.policy.specs.declared.PolicyFault.TheVariants.{ReadBarred}
 use Rattle.history.specs.Calls.{Answer, values, reply}
 use Rattle.history.specs.Answers.{first_barred}
@@ -36,7 +36,7 @@ module _ {P : Type 0} (facts : P → Facts) (after : P → Move → P → Type 0
   pub record GrantedReads (vs : List ℕ) (p q : P) (count : ℕ) : Type 0 where
     pub reads : List ℕ
     pub made_for : ReadsFor vs reads
-    pub chain : Chain after (map (reads-variable t) reads) p q
+    pub chain : Chain after (map (reads_variable t) reads) p q
     pub granted : first_barred (facts p) t 0 vs ≡ none
     pub counted : length reads ≡ count
 

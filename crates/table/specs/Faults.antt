@@ -4,13 +4,13 @@ use Rattle.std.proofs.Math.Option.{Option, none, some}
 use Rattle.policy.specs.declared.PolicyFault.{PolicyFault}
 use Rattle.policy.specs.declared.PolicyFault.TheVariants.{Unfit, ReadBarred, WriteBarred, CommitRefused}
 use Rattle.history.specs.Calls.{single, listed, Wrong, no_task, no_variable, list_length, short_buffer, Untimely, not_idle, is_idle, is_broken, read_barred, write_barred, commit_barred}
-use Rattle.history.specs.Calls.{Place as History-place, Refusal, sent_wrongly, at_wrong_time, by_policy, number}
+use Rattle.history.specs.Calls.{Place as HistoryPlace, Refusal, sent_wrongly, at_wrong_time, by_policy, number}
 use Rattle.table.specs.declared.fault.Place.{Place}
 use Rattle.table.specs.declared.fault.Place.TheVariants.{Single, Listed}
 use Rattle.table.specs.declared.fault.TableFault.{TableFault}
 use Rattle.table.specs.declared.fault.TableFault.TheVariants.{NoTask, NoVariable, ListLength, ShortBuffer, NotIdle, IsIdle, IsBroken, Refused}
 
-abbrev pub place_of : Place → History-place
+abbrev pub place_of : Place → HistoryPlace
 place_of Single = single
 place_of (Listed i) = listed i
 

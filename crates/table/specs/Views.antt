@@ -5,7 +5,7 @@ use Rattle.policy.specs.Facts.{Facts}
 use Rattle.policy.specs.Moves.{Move}
 use Rattle.policy.specs.declared.Granted.{Granted}
 use Rattle.history.specs.Calls.{Call, Answer, done, value, refused, Refusal}
-use Rattle.history.specs.Answers.{Stage as History-stage, idle, active, broken, look}
+use Rattle.history.specs.Answers.{Stage as HistoryStage, idle, active, broken, look}
 use Rattle.history.specs.Steps.{State, Step}
 use Rattle.history.specs.Runs.{Sound}
 use Rattle.table.specs.Faults.{refusal_of}
@@ -15,7 +15,7 @@ use Rattle.table.specs.declared.stage.Stage.{Stage}
 use Rattle.table.specs.declared.stage.Stage.TheVariants.{Idle, Open, Broken}
 use Rattle.table.specs.declared.table.Table.{Table}
 
-abbrev pub stage_of : Stage → History-stage
+abbrev pub stage_of : Stage → HistoryStage
 stage_of Idle = idle
 stage_of (Open pending) = active
 stage_of Broken = broken

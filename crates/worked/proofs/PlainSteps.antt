@@ -2,7 +2,7 @@
 use Rattle.std.proofs.Common.{◌≡◌, ℕ, ◌≤◌, Bool, true, List, [], ◌∷◌, ◌++◌, map, length, ℤ, sym, refl, ap, ◌∙◌, subst, arith}
 use Rattle.policy.specs.Facts.{Facts}
 use Rattle.policy.specs.Moves.{Move}
-use Rattle.policy.specs.Moves.{read as reads-variable}
+use Rattle.policy.specs.Moves.{read as reads_variable}
 use Rattle.history.specs.Update.{at}
 use Rattle.history.specs.Calls.{Call, task, Answer}
 use Rattle.history.specs.Answers.{checked, wrong, untimely, barred}
@@ -40,7 +40,7 @@ module _ {P : Type 0} (facts : P → Facts) (after : P → Move → P → Type 0
   pub plain_step : (c : Call) (r : Answer) (a : State P) (q : P) → plain c ≡ true → r ≡ replied facts strict c a
       → Chain after (moves c (a.stage (task c)) r) a.policy q → Step facts after strict c a r (continued facts c r a q)
   plain_step c r a q e answered chain =
-      let parts = chain_split after (map (reads-variable (task c)) (granted_reads c r)) (last_moves c (a.stage (task c)) r) a.policy q chain in
+      let parts = chain_split after (map (reads_variable (task c)) (granted_reads c r)) (last_moves c (a.stage (task c)) r) a.policy q chain in
       record {
         opened = a.policy;
         between = parts.0;

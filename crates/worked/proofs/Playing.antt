@@ -5,10 +5,10 @@ use Rattle.policy.specs.declared.PolicyFault.TheVariants.{Unfit, ReadBarred, Wri
 use Rattle.policy.specs.declared.Granted.{Granted}
 use Rattle.policy.specs.Facts.{Facts, Fresh}
 use Rattle.policy.specs.Moves.{Move, read_refused, write_refused, commit_refused}
-use Rattle.policy.specs.Moves.{begin as begins, read as reads-variable, write as writes-variable, commit as commits, abort as aborts}
+use Rattle.policy.specs.Moves.{begin as begins, read as reads_variable, write as writes_variable, commit as commits, abort as aborts}
 use Rattle.policy.specs.Answers.{Moved, begin_answer, read_answer, write_answer, commit_answer, abort_answer}
 use Rattle.history.specs.Calls.{Call, begin, read, write, collect, snapshot, commit, abort, task}
-use Rattle.history.specs.Steps.{State, in-case, Chain}
+use Rattle.history.specs.Steps.{State, in_case, Chain}
 use Rattle.history.specs.Transactions.{History}
 use Rattle.history.specs.Runs.{New, Leads, none_yet, then}
 use Rattle.history.proofs.Logic.{both_true}
@@ -47,8 +47,8 @@ asked_answer strict (abort t) f = abort_answer f t
 -- the move that it makes if it grants the call
 abbrev pub granted_move : Call → Move
 granted_move (begin t) = begins t
-granted_move (read t v) = reads-variable t v
-granted_move (write t v x) = writes-variable t v
+granted_move (read t v) = reads_variable t v
+granted_move (write t v x) = writes_variable t v
 granted_move (collect t vs room) = aborts t
 granted_move (snapshot t vs room) = aborts t
 granted_move (commit t) = commits t
@@ -82,7 +82,7 @@ told_chain after done barred p q (Err CommitRefused) h = (q, h, refl)
 
 -- the table asks its policy about the call of a line
 abbrev pub asks : Line → Bool
-asks l = in-case (answer_of l.reply) true (λ why. true) false
+asks l = in_case (answer_of l.reply) true (λ why. true) false
 
 -- the moves that the policy makes for the call of a line, after the lines before it
 abbrev pub moves_for : (k : Kind) → Line → List Line → List Move

@@ -6,12 +6,12 @@ use Rattle.policy.specs.Moves.{Move}
 use Rattle.transactions.specs.Sets.{Sets, no_transactions}
 use Rattle.transactions.specs.Moved.{moved}
 use Rattle.lock.specs.Locks as lock_state
-use Rattle.lock.specs.After as lock-policy
-use Rattle.own.specs.Ownership as own-state
-use Rattle.own.specs.After as own-policy
-use Rattle.clock.specs.Held as clock-state
+use Rattle.lock.specs.After as lock_policy
+use Rattle.own.specs.Ownership as own_state
+use Rattle.own.specs.After as own_policy
+use Rattle.clock.specs.Held as clock_state
 use Rattle.clock.specs.Steps.{next, new_policy}
-use Rattle.clock.specs.Clocks as clock-policy
+use Rattle.clock.specs.Clocks as clock_policy
 use Rattle.eager.specs.Layer.{fenced, below_move}
 use Rattle.history.specs.Steps.{State}
 use Rattle.history.specs.Transactions.{History}
@@ -24,37 +24,37 @@ use Rattle.worked.proofs.Schedules.{all_plain, new_table, after_lines, Right, Re
 -- the type of what a policy holds
 abbrev pub Held : Kind → Type 0
 Held lock = Sets
-Held own = own-state.State
-Held (clock start) = clock-state.Held
-Held (eager_clock start) = clock-state.Held
+Held own = own_state.State
+Held (clock start) = clock_state.Held
+Held (eager_clock start) = clock_state.Held
 
 -- what a policy of this kind holds now
 abbrev pub held : (k : Kind) → PolicyOf k → Held k
-held lock p = lock-policy.held p
-held own p = own-policy.state p
-held (clock start) p = clock-policy.held p
-held (eager_clock start) p = clock-policy.held p.below
+held lock p = lock_policy.held p
+held own p = own_policy.state p
+held (clock start) p = clock_policy.held p
+held (eager_clock start) p = clock_policy.held p.below
 
 -- what a new policy holds
 abbrev pub first : (k : Kind) → Held k
 first lock = no_transactions
-first own = own-state.idle
+first own = own_state.idle
 first (clock start) = new_policy start
 first (eager_clock start) = new_policy start
 
 -- what that means
 abbrev pub meaning : (k : Kind) → Held k → Facts
 meaning lock x = lock_state.facts_of x
-meaning own x = own-state.facts_of x
-meaning (clock start) x = clock-state.meaning x
-meaning (eager_clock start) x = fenced (clock-state.meaning x)
+meaning own x = own_state.facts_of x
+meaning (clock start) x = clock_state.meaning x
+meaning (eager_clock start) x = fenced (clock_state.meaning x)
 
 -- what a move makes of it
 abbrev pub after_move : (k : Kind) → Move → Held k → Held k
 after_move lock m x = moved m x
-after_move own m x = own-state.next m x
+after_move own m x = own_state.next m x
 after_move (clock start) m x = next m x
-after_move (eager_clock start) m x = next (below_move (clock-state.meaning x) m) x
+after_move (eager_clock start) m x = next (below_move (clock_state.meaning x) m) x
 
 -- the clock in it, if there is one
 abbrev pub clock_in : (k : Kind) → Held k → Option ℕ

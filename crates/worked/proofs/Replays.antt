@@ -5,7 +5,7 @@ use mathlib.Core.Path.{fun_ext}
 use mathlib.Core.List.{Memᴰ}
 use Rattle.policy.specs.Facts.{Facts}
 use Rattle.policy.specs.Moves.{Move}
-use Rattle.policy.specs.Moves.{read as reads-variable}
+use Rattle.policy.specs.Moves.{read as reads_variable}
 use Rattle.history.specs.Update.{at}
 use Rattle.history.specs.Calls.{Call, begin, read, write, collect, snapshot, commit, abort, task}
 use Rattle.history.specs.Calls.{Answer, done, value, values, refused, sent_wrongly, at_wrong_time, by_policy}
@@ -25,7 +25,7 @@ after_moves next (m ∷ ms) x = after_moves next ms (next m x)
 
 -- the moves of a call that begins no snapshot and reads no list
 abbrev pub moves : Call → Stage → Answer → List Move
-moves c s r = map (reads-variable (task c)) (granted_reads c r) ++ last_moves c s r
+moves c s r = map (reads_variable (task c)) (granted_reads c r) ++ last_moves c s r
 
 -- a call that reads no list
 abbrev pub plain : Call → Bool
@@ -129,16 +129,16 @@ module _ {P H : Type 0} (held : P → H) (meaning : H → Facts) (next : Move �
         ∙ ap (checked (wrong c) (untimely c (a.stage (task c))) (barred strict (meaning (held a.policy)) c))
         (no_count c (sees meaning c (picture held a) (held a.policy)) (length step.reads) e)
 
-    between_is : held step.between ≡ after_moves next (map (reads-variable (task c)) (granted_reads c r)) (held a.policy)
+    between_is : held step.between ≡ after_moves next (map (reads_variable (task c)) (granted_reads c r)) (held a.policy)
     between_is =
-        chain_held (map (reads-variable (task c)) step.reads) step.opened step.between step.reading
-        ∙ (λ i. after_moves next (map (reads-variable (task c)) (reads_are i)) (held (opened_is i)))
+        chain_held (map (reads_variable (task c)) step.reads) step.opened step.between step.reading
+        ∙ (λ i. after_moves next (map (reads_variable (task c)) (reads_are i)) (held (opened_is i)))
 
     held_is : held b.policy ≡ after_moves next (moves c (a.stage (task c)) r) (held a.policy)
     held_is =
         chain_held (last_moves c (a.stage (task c)) r) step.between b.policy step.closing
         ∙ ap (after_moves next (last_moves c (a.stage (task c)) r)) between_is
-        ∙ sym (moves_append next (map (reads-variable (task c)) (granted_reads c r)) (last_moves c (a.stage (task c)) r) (held a.policy))
+        ∙ sym (moves_append next (map (reads_variable (task c)) (granted_reads c r)) (last_moves c (a.stage (task c)) r) (held a.policy))
 
     stage_is : b.stage ≡ at a.stage (task c) (stage_after c r (a.stage (task c)))
     stage_is = is_at a.stage b.stage (task c) (stage_after c r (a.stage (task c))) step.stage step.other_stages

@@ -4,19 +4,19 @@ use Rattle.std.proofs.Math.Option.{Option, none, some}
 use Rattle.policy.specs.declared.Policy.{Ghosts}
 use Rattle.transactions.specs.Sets.{no_transactions}
 use Rattle.lock.specs.declared.Lock.{Lock}
-use Rattle.lock.specs.After as lock-policy
-use Rattle.lock.specs.contracts.calls.LockPolicy.TheImpl as lock-impl
+use Rattle.lock.specs.After as lock_policy
+use Rattle.lock.specs.contracts.calls.LockPolicy.TheImpl as lock_impl
 use Rattle.own.specs.declared.Own.{Own}
 use Rattle.own.specs.Ownership.{idle}
-use Rattle.own.specs.After as own-policy
-use Rattle.own.specs.contracts.OwnPolicy.TheImpl as own-impl
+use Rattle.own.specs.After as own_policy
+use Rattle.own.specs.contracts.OwnPolicy.TheImpl as own_impl
 use Rattle.clock.specs.declared.state.Clock.{Clock}
-use Rattle.clock.specs.Clocks as clock-policy
+use Rattle.clock.specs.Clocks as clock_policy
 use Rattle.clock.specs.Steps.{new_policy}
-use Rattle.clock.specs.contracts.state.Clock as clock-type
-use Rattle.clock.specs.contracts.calls.ClockPolicy.TheImpl as clock-impl
+use Rattle.clock.specs.contracts.state.Clock as clock_type
+use Rattle.clock.specs.contracts.calls.ClockPolicy.TheImpl as clock_impl
 use Rattle.eager.specs.declared.Eager.{Eager}
-use Rattle.eager.specs.contracts.EagerPolicy.TheImpl as eager-impl
+use Rattle.eager.specs.contracts.EagerPolicy.TheImpl as eager_impl
 
 -- two-phase locking, DSTM with invisible reads, TL2 with the clock it starts at, and the eager layer over TL2
 pub data Kind : Type 0 where
@@ -32,21 +32,21 @@ PolicyOf (eager_clock start) = Eager Clock
 
 -- its facts, its moves and whether it is strict, as it states them itself
 abbrev pub stated : (k : Kind) → Ghosts (PolicyOf k)
-stated lock = lock-impl.ghosts
-stated own = own-impl.ghosts
-stated (clock start) = clock-impl.ghosts
-stated (eager_clock start) = eager-impl.ghosts clock-type.the_row clock-impl.ghosts clock-impl.dict
+stated lock = lock_impl.ghosts
+stated own = own_impl.ghosts
+stated (clock start) = clock_impl.ghosts
+stated (eager_clock start) = eager_impl.ghosts clock_type.the_row clock_impl.ghosts clock_impl.dict
 
 -- it is as it was made
 abbrev pub Made : (k : Kind) → PolicyOf k → Type 0
-Made lock p = lock-policy.held p ≡ no_transactions
-Made own p = own-policy.state p ≡ idle
-Made (clock start) p = clock-policy.held p ≡ new_policy start
-Made (eager_clock start) p = clock-policy.held p.below ≡ new_policy start
+Made lock p = lock_policy.held p ≡ no_transactions
+Made own p = own_policy.state p ≡ idle
+Made (clock start) p = clock_policy.held p ≡ new_policy start
+Made (eager_clock start) p = clock_policy.held p.below ≡ new_policy start
 
 -- what its clock says, if it has one
 abbrev pub clock_of : (k : Kind) → PolicyOf k → Option ℕ
 clock_of lock p = none
 clock_of own p = none
-clock_of (clock start) p = some (clock-policy.held p).clock
-clock_of (eager_clock start) p = some (clock-policy.held p.below).clock
+clock_of (clock start) p = some (clock_policy.held p).clock
+clock_of (eager_clock start) p = some (clock_policy.held p.below).clock

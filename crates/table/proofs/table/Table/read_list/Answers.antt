@@ -1,7 +1,7 @@
 use Rattle.std.proofs.Common.{◌≡◌, ℕ, ◌+◌, ◌<◌, length, get_or, drop, replicate, pos, Err, sym, refl, ap, ◌∙◌, subst, arith, w32, to_z, of_z, rules}
 use Rattle.std.proofs.lemmas.List.{drop-set-lt, drop-drop}
 use Rattle.policy.specs.Moves.{read_refused}
-use Rattle.policy.specs.Moves.{read as reads-variable}
+use Rattle.policy.specs.Moves.{read as reads_variable}
 use Rattle.policy.specs.Answers.{Moved}
 use Rattle.table.proofs.ListChecks.{named_at}
 use Rattle.table.proofs.ListReads.{none_read, one_more, barred_at, all_read}
@@ -29,7 +29,7 @@ returns-in-Err g c =
           c.args.self.now i c.loop-variable.self c.read.new.self c.loop-variable.reply h l (c.loop-variable.invariant.4 l)
           (g.met.P.Policy.proper c.loop-variable.self.policy) (named_at 0 c.args.list.now i c.requires.named h)
           (rw c.loop-variable.invariant.0 c.in-Err.ensures.answer)
-          (subst (λ (n : ℕ). Moved g.P.Policy.after (reads-variable c.args.task (get_or c.args.list.now n 0)) (read_refused c.args.task (get_or c.args.list.now n 0))
+          (subst (λ (n : ℕ). Moved g.P.Policy.after (reads_variable c.args.task (get_or c.args.list.now n 0)) (read_refused c.args.task (get_or c.args.list.now n 0))
           c.loop-variable.self.policy c.read.new.self (Err c.in-Err.fault)) (sym c.loop-variable.invariant.0) c.in-Err.ensures.moved);
       leaves = c.clear.ensures ∙ ap (λ (n : ℕ). replicate n (pos 0)) (omega arith);
       stages = c.loop-variable.invariant.2;
