@@ -19,6 +19,15 @@ DECLARED = re.compile(r"^\s*((?:abbrev |unfoldable |pub )*)(data |record )?([A-Z
 MADE = re.compile(r"^(invariant|decreases)-(loop|of)-|^(decreases|loop|returns|overflow)-|-(requires|requires-\d+|preserved|init|smaller)$")
 # A dash joins the names of two functions, and with `_` these would be the library's.
 KEPT = {"bit-or", "bit-and"}
+# Names that the kit's script left half turned.
+FURTHER = {
+    "Goes_on": "GoesOn",
+    "getD-filled": "get_or_filled",
+    "getD-set-either": "get_or_set_either",
+    "get_d_beyond": "get_or_beyond",
+    "number_of_lem": "number_of_fault",
+    "ProofsKeeps": "KeepsProof",
+}
 # Words of comments that the kit's script took for names.
 COMMENTS = [("no_read set", "no-read set"), ("no_write set", "no-write set")]
 
@@ -75,6 +84,7 @@ def respelled(root):
         if not NAME.fullmatch(name) or name in KEPT or name in made or MADE.search(name):
             continue
         names[name] = new_name(name)
+    names.update(FURTHER)
     together = {}
     for old, new in names.items():
         together.setdefault(new, []).append(old)

@@ -13,10 +13,10 @@ pub same_held : (s r : Held) → s.clock ≡ r.clock → ((v : ℕ) → s.versio
 same_held s r c n x = λ i. record { clock = c i; version = fun_ext n i; transaction = fun_ext x i }
 
 -- an array of one value gives it at every place
-pub getD_filled : {X : Type 0} (n : ℕ) (d : X) (i : ℕ) → get_or (replicate n d) i d ≡ d
-getD_filled zero d i = refl
-getD_filled (suc n) d zero = refl
-getD_filled (suc n) d (suc i) = getD_filled n d i
+pub get_or_filled : {X : Type 0} (n : ℕ) (d : X) (i : ℕ) → get_or (replicate n d) i d ≡ d
+get_or_filled zero d i = refl
+get_or_filled (suc n) d zero = refl
+get_or_filled (suc n) d (suc i) = get_or_filled n d i
 
 -- the versions are what the array gives at each variable, and 0 elsewhere
 pub numbers_from : (ns : List ℕ) (f : ℕ → ℕ) → ((v : ℕ) → v < variables → get_or ns v 0 ≡ f v)
@@ -34,12 +34,12 @@ rows_from ts f inside outside t =
     (λ e. inside t (ltb-true t tasks e)) (λ e. sym (outside t (ltb-false t tasks e)))
 
 -- what holds of the value written and of the value that was there holds of the one that is there
-pub getD_set_either : {X : Type 0} (P : X → Type 0) (xs : List X) (i : ℕ) (y : X) (j : ℕ) (d : X) → P y → P (get_or xs j d) → P (get_or (set xs i y) j d)
-getD_set_either P [] i y j d h k = k
-getD_set_either P (x ∷ xs) zero y zero d h k = h
-getD_set_either P (x ∷ xs) zero y (suc j) d h k = k
-getD_set_either P (x ∷ xs) (suc i) y zero d h k = k
-getD_set_either P (x ∷ xs) (suc i) y (suc j) d h k = getD_set_either P xs i y j d h k
+pub get_or_set_either : {X : Type 0} (P : X → Type 0) (xs : List X) (i : ℕ) (y : X) (j : ℕ) (d : X) → P y → P (get_or xs j d) → P (get_or (set xs i y) j d)
+get_or_set_either P [] i y j d h k = k
+get_or_set_either P (x ∷ xs) zero y zero d h k = h
+get_or_set_either P (x ∷ xs) zero y (suc j) d h k = k
+get_or_set_either P (x ∷ xs) (suc i) y zero d h k = k
+get_or_set_either P (x ∷ xs) (suc i) y (suc j) d h k = get_or_set_either P xs i y j d h k
 
 -- the version of a variable that there is
 pub number_at : (ns : List ℕ) (v : ℕ) → v < variables → numbers ns v ≡ get_or ns v 0

@@ -18,8 +18,8 @@ use varset::VarSet;
 pub(crate) fn is_stale(versions: &[u32; VARIABLES], x: Transaction) -> bool
     ensures { result ≡ some_below variables (stale_for (running x) (numbers versions.now)) }
 {
-    for v in 0..VARIABLES as u8 {
-        if x.reads.has(v) && versions[v as usize] > x.read_version {
+    for v in x.reads.iter() {
+        if versions[v as usize] > x.read_version {
             return true;
         }
     }
@@ -30,10 +30,8 @@ pub(crate) fn is_stale(versions: &[u32; VARIABLES], x: Transaction) -> bool
 fn stamp_versions(versions: &mut [u32; VARIABLES], written: VarSet, number: u32)
     ensures { StampedVersions (member written) number versions.old versions.new }
 {
-    for v in 0..VARIABLES as u8 {
-        if written.has(v) {
-            versions[v as usize] = number;
-        }
+    for v in written.iter() {
+        versions[v as usize] = number;
     }
 }
 

@@ -21,7 +21,7 @@ use Rattle.history.proofs.Ledgers.{Grows, stood_below, settled_grows, further, a
 use Rattle.history.proofs.Others.{unended_all, stays, keep_rival, undisturbed_standing, all_active, all_idle, same_order}
 
 -- what is known of a granted access of t, whose transaction is T
-pub record Goes_on (t : ℕ) (ds : List Access) (vs : List ℕ) (a b : View) (L : Ledger) (order : List Transaction) (T : Transaction) : Type 0 where
+pub record GoesOn (t : ℕ) (ds : List Access) (vs : List ℕ) (a b : View) (L : Ledger) (order : List Transaction) (T : Transaction) : Type 0 where
   pub active : b.facts.active t ≡ true
   pub behind : b.facts.behind t ≡ a.facts.behind t
   pub no_read : (w : ℕ) → b.facts.no_read t w ≡ a.facts.no_read t w
@@ -38,7 +38,7 @@ pub record Goes_on (t : ℕ) (ds : List Access) (vs : List ℕ) (a b : View) (L 
   pub exact_then : (h : Behind a L order t T) → Exact (replay zeros h.pre) (pend nothing_pending T.accesses) ds
 
 module _ (t : ℕ) (ds : List Access) (vs : List ℕ) (a b : View) (L : Ledger) (order : List Transaction) (inv : Invariant a L order) (o : Active a L order t)
-    (h : Goes_on t ds vs a b L order o.transaction) where
+    (h : GoesOn t ds vs a b L order o.transaction) where
   -- the transaction before the access
   abbrev T : Transaction
   T = o.transaction

@@ -8,7 +8,7 @@ ghost use Rattle.lock.specs.After.{held, facts as lock_facts, After};
 ghost use Rattle.transactions.proofs.Sound.{sound};
 ghost use Rattle.lock.specs.Bars;
 ghost use Rattle.policy.specs.Moves.{Keeps};
-ghost use Rattle.lock.specs.Keeps as ProofsKeeps;
+ghost use Rattle.lock.specs.Keeps as KeepsProof;
 
 use crate::Lock;
 use policy::{Granted, Policy, PolicyFault, TASKS};
@@ -77,7 +77,7 @@ impl Policy for Lock {
 
     ghost proper = { λ p. Bars.proper (held p) (sound p.transactions) };
 
-    ghost keeps = { λ p q m a. subst (λ s. Keeps true m (facts_of (held p)) (facts_of s)) (sym a.sets) (ProofsKeeps.keeps (held p) (sound p.transactions) p.apart m a.call) };
+    ghost keeps = { λ p q m a. subst (λ s. Keeps true m (facts_of (held p)) (facts_of s)) (sym a.sets) (KeepsProof.keeps (held p) (sound p.transactions) p.apart m a.call) };
 
     fn is_strict() -> bool {
         Self::STRICT

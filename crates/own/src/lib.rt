@@ -9,7 +9,7 @@ ghost use Rattle.own.specs.Ownership.{idle, owned_by_other, Overtaken, next, fac
 ghost use Rattle.own.specs.After.{state, facts as own_facts, After};
 ghost use Rattle.transactions.proofs.Sound.{sound};
 ghost use Rattle.own.specs.Bars;
-ghost use Rattle.own.specs.Keeps as ProofsKeeps;
+ghost use Rattle.own.specs.Keeps as KeepsProof;
 
 use policy::{Granted, Policy, PolicyFault, TASKS};
 use transactions::Transactions;
@@ -115,7 +115,7 @@ impl Policy for Own {
 
     ghost proper = { λ p. Bars.proper (state p) (sound p.transactions) };
 
-    ghost keeps = { λ p q m a. subst (λ x. Keeps true m (facts_of (state p)) (facts_of x)) (sym a.holds) (ProofsKeeps.keeps (state p) (sound p.transactions) m a.call) };
+    ghost keeps = { λ p q m a. subst (λ x. Keeps true m (facts_of (state p)) (facts_of x)) (sym a.holds) (KeepsProof.keeps (state p) (sound p.transactions) m a.call) };
 
     fn is_strict() -> bool {
         Self::STRICT

@@ -1,6 +1,6 @@
 // Why a table turned a call down.
 ghost use Rattle.std.specs.Prelude.{◌≡◌};
-ghost use Rattle.table.specs.Faults.{numbered as number_of_lem, refused_single};
+ghost use Rattle.table.specs.Faults.{numbered as number_of_fault, refused_single};
 
 use policy::PolicyFault;
 use refusal::Refusal;
@@ -37,7 +37,7 @@ impl From<PolicyFault> for TableFault {
 }
 
 impl Refusal for TableFault {
-    ghost numbered = { number_of_lem };
+    ghost numbered = { number_of_fault };
 
     fn number(&self) -> u8 {
         match *self {

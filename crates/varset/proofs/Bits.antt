@@ -1,7 +1,8 @@
--- The bits of a number: of zero, of a power of two, of `|` and `&`; for any width.
-use Rattle.std.proofs.Common.{◌≡◌, ℕ, zero, suc, ◌+◌, ◌-◌, ◌*◌, ◌/◌, ◌%◌, ◌^◌, ◌<◌, min, max, true, false, ◌&&◌, ◌||◌, eqb, ◌⊎◌, sym, ap, ◌∙◌, inl, inr, add-mul, pow-suc, arith}
+-- The bits of a number: of zero, of a power of two, of `|`, `&` and `!`, and the lowest one; for any width.
+use Rattle.std.proofs.Common.{◌≡◌, ℕ, zero, suc, ◌+◌, ◌-◌, ◌*◌, ◌/◌, ◌%◌, ◌^◌, ◌<◌, min, max, true, false, not, ◌&&◌, ◌||◌, eqb, ◌⊎◌, sym, refl, ap, ◌∙◌, inl, inr, add-mul, pow-suc, arith}
 use native.Mathlib.Nat.{div-eq_of_lt, div_self, mul-mod_left, zero-div}
 use lib.Bits.{bit_or, bit_and, or_step, and_step}
+use lib.Count.{count_trailing_zeros, under}
 use Rattle.std.proofs.lemmas.Nat.{or_shr, and_shr, pow_pos, pow-add, pow_below, shl-shr, shr-shr, shr_high}
 use Rattle.std.proofs.lemmas.Bool.{cases_order, eq-eqb, ne_eqb, eqb-false}
 use Rattle.std.proofs.lemmas.Bool.Decides.{nat_tests}
@@ -87,3 +88,52 @@ zero_from_bits (suc w) x h a =
     let b : x < 2 ^ w * 2 = rw pow-suc at h in
     let z : x / 2 ≡ 0 = zero_from_bits w (x / 2) (omega arith) (λ v l. bit_half x v ∙ a (suc v) (omega arith)) in
     omega (arith, even_from_bit x (a 0 (omega arith)))
+
+-- the last bit
+bit_odd : (x : ℕ) → x % 2 ≡ 1 → bit x 0 ≡ true
+unfolding bit
+bit_odd x e = eq-eqb (x / 1 % 2) 1 (omega arith)
+
+bit_even : (x : ℕ) → x % 2 ≡ 0 → bit x 0 ≡ false
+unfolding bit
+bit_even x e = ne_eqb (x / 1 % 2) 1 (λ o. omega arith)
+
+-- every bit turned, in a width
+pub bit_not : (w x v : ℕ) → x < 2 ^ w → v < w → bit (2 ^ w - 1 - x) v ≡ not (bit x v)
+bit_not zero x v h l = absurd (omega arith)
+bit_not (suc w) x zero h l = go (x % 2) refl
+  where
+    p : 2 ^ suc w ≡ 2 ^ w * 2
+    p = pow-suc 2 w
+
+    go : (r : ℕ) → x % 2 ≡ r → bit (2 ^ suc w - 1 - x) 0 ≡ not (bit x 0)
+    go zero e = rw (bit_odd (2 ^ suc w - 1 - x) (omega (arith, p, h, e)), bit_even x e)
+    go (suc r) e = rw (bit_even (2 ^ suc w - 1 - x) (omega (arith, p, h, e)), bit_odd x (omega arith))
+bit_not (suc w) x (suc v) h l =
+    let p : 2 ^ suc w ≡ 2 ^ w * 2 = pow-suc 2 w in
+    let e : (2 ^ suc w - 1 - x) / 2 ≡ 2 ^ w - 1 - x / 2 = omega arith in
+    sym (bit_half (2 ^ suc w - 1 - x) v) ∙ ap (λ (n : ℕ). bit n v) e ∙ bit_not w (x / 2) v (omega arith) (omega arith) ∙ ap not (bit_half x v)
+
+-- a number that isn't zero has its lowest bit where its trailing zeros end
+pub bit_trailing : (w x : ℕ) → 0 < x → x < 2 ^ w → bit x (count_trailing_zeros w x) ≡ true
+unfolding count_trailing_zeros
+bit_trailing zero x p h = absurd (omega arith)
+bit_trailing (suc w) x p h = go (x % 2) refl (bit_trailing w (x / 2))
+  where
+    b : x < 2 ^ w * 2
+    b = rw pow-suc at h
+
+    go : (r : ℕ) → x % 2 ≡ r → (0 < x / 2 → x / 2 < 2 ^ w → bit (x / 2) (count_trailing_zeros w (x / 2)) ≡ true) → bit x (under r (count_trailing_zeros w (x / 2))) ≡ true
+    go zero e half = sym (bit_half x (count_trailing_zeros w (x / 2))) ∙ half (omega (arith, p, e)) (omega (arith, b))
+    go (suc r) e half = bit_odd x (omega arith)
+
+-- and none below
+pub bit_before_trailing : (w x v : ℕ) → v < count_trailing_zeros w x → bit x v ≡ false
+unfolding count_trailing_zeros
+bit_before_trailing zero x v l = absurd (omega arith)
+bit_before_trailing (suc w) x v l = go (x % 2) v refl l (bit_before_trailing w (x / 2))
+  where
+    go : (r u : ℕ) → x % 2 ≡ r → u < under r (count_trailing_zeros w (x / 2)) → ((k : ℕ) → k < count_trailing_zeros w (x / 2) → bit (x / 2) k ≡ false) → bit x u ≡ false
+    go zero zero e i half = bit_even x e
+    go zero (suc u) e i half = sym (bit_half x u) ∙ half u (omega arith)
+    go (suc r) u e i half = absurd (omega arith)

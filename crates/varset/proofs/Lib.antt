@@ -1,3 +1,5 @@
 mod Bits
 mod Masks
+mod HowMany
 pub mod Below
+pub mod Visiting

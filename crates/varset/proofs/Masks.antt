@@ -1,13 +1,15 @@
--- Masks of any width as sets: the empty one, the full one, one more place, union, and whether there is a member.
+-- Masks of any width as sets: the empty one, the full one, a place more or less, union, the least member, and whether there is one.
 use Rattle.std.proofs.Common.{◌≡◌, ℕ, ◌-◌, ◌*◌, ◌/◌, ◌%◌, ◌^◌, ◌<◌, Bool, true, false, not, ◌&&◌, ◌||◌, eqb, ltb, ◌⊎◌, ap, ◌∙◌, inl, inr, arith}
 use lib.Bits.{bit_or, bit_and}
-use Rattle.std.proofs.lemmas.Nat.{one_shl, and_mask}
-use Rattle.std.proofs.lemmas.Bool.{cases_Bool, lt-ltb, ltb-true, and_right, both_ways}
+use lib.Count.{count_trailing_zeros}
+use borrow.Author.Numbers.{trailing_lt}
+use Rattle.std.proofs.lemmas.Nat.{one_shl, and_mask, pow_below}
+use Rattle.std.proofs.lemmas.Bool.{cases_Bool, lt-ltb, ltb-true, and_from, and_right, both_ways}
 use Rattle.std.proofs.lemmas.Bool.Decides.{nat_tests}
 use Rattle.policy.specs.Facts.{some_below}
 use Rattle.policy.proofs.SomeBelow.{some_below_empty, some_below_all, some_below_same}
-use Rattle.varset.specs.Members.{bit}
-use Rattle.varset.proofs.Bits.{bit_zero, bit-or, bit-and, bit_ones, bit_power, zero_from_bits}
+use Rattle.varset.specs.Members.{bit, minus, Least}
+use Rattle.varset.proofs.Bits.{bit_zero, bit-or, bit-and, bit_not, bit_ones, bit_power, bit_trailing, bit_before_trailing, zero_from_bits}
 
 -- place v of a mask of w bits
 abbrev pub inside : ℕ → ℕ → ℕ → Bool
@@ -35,6 +37,32 @@ inside_with w x k v h =
     let e : bit (bit_or x ((1 * 2 ^ k) % 2 ^ w)) v ≡ (bit x v || eqb v k) = ap (λ (n : ℕ). bit (bit_or x n) v) (one_shl k w h) ∙ bit-or x (2 ^ k) v ∙ ap (λ (b : Bool). bit x v || b) (bit_power k v) in
     let l : ltb k w ≡ true = lt-ltb k w h in
     rw e (grind (arith, nat_tests))
+
+-- the mask without the place k, as `x & !(1 << k)` has it
+pub inside_without : (w x k v : ℕ) → k < w → inside w (bit_and x (2 ^ w - 1 - (1 * 2 ^ k) % 2 ^ w)) v ≡ minus (inside w x) k v
+inside_without w x k v h = go (cases_Bool (ltb v w))
+  where
+    go : (ltb v w ≡ true) ⊎ (ltb v w ≡ false) → inside w (bit_and x (2 ^ w - 1 - (1 * 2 ^ k) % 2 ^ w)) v ≡ minus (inside w x) k v
+    go (inl e) =
+        let n : bit (2 ^ w - 1 - (1 * 2 ^ k) % 2 ^ w) v ≡ not (eqb v k) = ap (λ (n : ℕ). bit (2 ^ w - 1 - n) v) (one_shl k w h) ∙ bit_not w (2 ^ k) v (pow_below k w h) (ltb-true v w e) ∙ ap not (bit_power k v) in
+        let a : bit (bit_and x (2 ^ w - 1 - (1 * 2 ^ k) % 2 ^ w)) v ≡ (bit x v && not (eqb v k)) = bit-and x _ v ∙ ap (λ (b : Bool). bit x v && b) n in
+        rw (e, a)
+    go (inr e) = rw e
+
+-- a place beyond the mask is not in it
+pub inside_beyond : (w x k v : ℕ) → ltb k w ≡ false → inside w x v ≡ minus (inside w x) k v
+inside_beyond w x k v e = go (cases_Bool (eqb v k))
+  where
+    go : (eqb v k ≡ true) ⊎ (eqb v k ≡ false) → inside w x v ≡ minus (inside w x) k v
+    go (inl i) = let l : ltb v w ≡ false = grind (arith, nat_tests) in rw (l)
+    go (inr i) = grind arith
+
+-- the least member stands where the trailing zeros end
+pub least_place : (w x : ℕ) → 0 < x → x < 2 ^ w → Least (inside w x) (count_trailing_zeros w x)
+least_place w x p h = record {
+  in_set = and_from _ _ (lt-ltb (count_trailing_zeros w x) w (trailing_lt w x p h)) (bit_trailing w x p h);
+  none_below = λ v l. and_right (ltb v w) (bit x v) (bit_before_trailing w x v l);
+}
 
 -- the test of a place, as `(x >> k) & 1 == 1` has it
 pub bit_test : (x k : ℕ) → eqb (bit_and (x / 2 ^ k) 1) 1 ≡ bit x k

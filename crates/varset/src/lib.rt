@@ -4,9 +4,13 @@
 ghost use Rattle.std.specs.Prelude.{◌≡◌, ℕ, not};
 ghost use Rattle.policy.specs.Limits.{variables};
 ghost use Rattle.policy.specs.Facts.{some_below};
-ghost use Rattle.varset.specs.Members.{member, Holds, nothing, everything, plus, either, both};
+ghost use Rattle.varset.specs.Members.{member, Holds, nothing, everything, plus, minus, either, both, First};
 
 use policy::VARIABLES;
+
+mod iterating;
+
+pub use iterating::Members;
 
 // One bit for each variable.
 type Mask = u64;
@@ -53,6 +57,36 @@ impl VarSet {
         } else {
             self
         }
+    }
+
+    // The set and not the variable.
+    fn without(self, variable: u8) -> VarSet
+        ensures { Holds result (minus (member self) variable) }
+    {
+        if is_variable(variable) {
+            VarSet {
+                mask: self.mask & !(1 << variable),
+            }
+        } else {
+            self
+        }
+    }
+
+    // The least member.
+    fn first(self) -> Option<u8>
+        ensures { First (member self) result }
+    {
+        match self.mask {
+            0 => None,
+            _ => Some(self.mask.trailing_zeros() as u8),
+        }
+    }
+
+    // The members in rising order.
+    pub fn iter(self) -> Members
+        ensures { result.rest ≡ self }
+    {
+        Members { rest: self }
     }
 
     pub fn is_empty(self) -> bool

@@ -1,9 +1,13 @@
-use Rattle.std.proofs.Common.{◌≡◌, ℕ, ◌<◌, ◌≤◌, cond, get_or}
+use Rattle.std.proofs.Common.{◌≡◌, ℕ, length}
+use Rattle.policy.specs.Limits.{variables}
 use Rattle.varset.specs.Members.{member}
+use Rattle.varset.proofs.Visiting.{renewed}
 use Rattle.clock.proofs.changes.stamp_versions.Given as goal
 
--- the variables so far are stamped, and the others have the versions that they had
+-- what is still to be stamped, with what is stamped already, is what was written
 abbrev pub invariant-loop-v : goal.invariant-loop-v
 invariant-loop-v l =
-    ((u : ℕ) → u < l.v → get_or l.versions u 0 ≡ cond (member l.written u) l.number (get_or l.initial.versions u 0))
-    × ((u : ℕ) → l.v ≤ u → get_or l.versions u 0 ≡ get_or l.initial.versions u 0)
+    (goal.iterator-loop-v).can_next l.v-iterator × (goal.iterator-loop-v).is_finite l.v-iterator
+    × (length l.versions ≡ variables)
+    × ((v : ℕ) → renewed 0 (λ u. l.number) (member l.v-iterator.rest) l.versions v
+    ≡ renewed 0 (λ u. l.number) (member l.initial.v-iterator.rest) l.initial.versions v)
