@@ -81,8 +81,8 @@ abbrev pub Prints : List ℕ → List ℕ → Type 0
 Prints text out = PrintsOf text (command_lines text) out
 
 -- how much room is always enough for what is printed of a text of n bytes
-abbrev pub room_for : ℕ → ℕ
-room_for n = longest_line * (min n longest_text + 1)
+abbrev pub most_printed_of_length : ℕ → ℕ
+most_printed_of_length n = longest_line * (min n longest_text + 1)
 
 -- how much room is always enough for what is printed of a text
 abbrev pub most_printed : List ℕ → ℕ

@@ -1,6 +1,6 @@
 // The output of a whole text, in a caller's buffer or on the heap.
 ghost use Rattle.std.specs.Prelude.{◌≡◌, ◌-◌, ◌≤◌, true, ◌++◌, length, take, replicate, is_ok, IfOk};
-ghost use Rattle.play.specs.Output.{Filled, Prints, room_for, most_printed};
+ghost use Rattle.play.specs.Output.{Filled, Prints, most_printed_of_length, most_printed};
 
 use crate::choosing::run_text;
 use crate::outcome::{NoRoom, RunFault};
@@ -29,7 +29,7 @@ pub fn room_for(text: &[u8]) -> usize
 
 // Room that is always enough for the output of a text of a given length.
 pub fn room_for_length(length: usize) -> usize
-    ensures { result ≡ room_for length }
+    ensures { result ≡ most_printed_of_length length }
 {
     LONGEST_LINE * (length.min(LONGEST_TEXT) + 1)
 }

@@ -2,7 +2,7 @@
 #![tactic(auto)]
 
 ghost use Rattle.std.specs.Prelude.{◌≡◌, ◌≤◌, length, pos};
-ghost use Rattle.play.specs.Output.{room_for};
+ghost use Rattle.play.specs.Output.{most_printed_of_length};
 ghost use Rattle.polungaw.specs.Boundary.{Answered, table_bytes, table_limit};
 
 use clock::Clock;
@@ -29,7 +29,7 @@ pub extern "C" fn polungaw_run(text: &[u8], out: &mut [u8]) -> i64
 // Room that is always enough for what is printed of a text of a given length.
 #[unsafe(no_mangle)]
 pub extern "C" fn polungaw_room(length: usize) -> usize
-    ensures { result ≡ room_for length }
+    ensures { result ≡ most_printed_of_length length }
 {
     room_for_length(length)
 }
