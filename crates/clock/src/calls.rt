@@ -29,7 +29,7 @@ impl Policy for Clock {
 
     ghost facts = { λ p. meaning (held p) };
 
-    ghost strict = { false };
+    ghost STRICT = { false };
 
     ghost after = { After };
 
@@ -40,10 +40,6 @@ impl Policy for Clock {
     ghost proper = { λ p. Keeping.proper (held p) (sound p) };
 
     ghost keeps = { λ p q m a. subst (λ (r : Held). Keeps false m (meaning (held p)) (meaning r)) (sym a.step) (Keeping.keeps m (held p) (sound p) a.call) };
-
-    fn is_strict() -> bool {
-        Self::STRICT
-    }
 
     fn begin(&mut self, task: u8) -> Result<Granted, PolicyFault> {
         if task as usize >= TASKS || self.transaction(task).is_some() {

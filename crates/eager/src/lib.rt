@@ -57,9 +57,9 @@ impl<P: Policy> Policy for Eager<P> {
 
     ghost facts = { λ p. fenced (P.Policy.facts p.below) };
 
-    ghost strict = { P.Policy.strict };
+    ghost STRICT = { P.Policy.STRICT };
 
-    ghost after = { λ p m q. After P.Policy.facts P.Policy.strict P.Policy.after p.below m q.below };
+    ghost after = { λ p m q. After P.Policy.facts P.Policy.STRICT P.Policy.after p.below m q.below };
 
     const STRICT: bool = P::STRICT;
 
@@ -68,12 +68,8 @@ impl<P: Policy> Policy for Eager<P> {
     ghost proper = { λ p. Keeps.proper (P.Policy.facts p.below) (P.Policy.proper p.below) };
 
     ghost keeps = { λ p q m a.
-        Keeps.keeps P.Policy.strict m (P.Policy.facts p.below) (P.Policy.facts q.below) (P.Policy.proper p.below) a.call
+        Keeps.keeps P.Policy.STRICT m (P.Policy.facts p.below) (P.Policy.facts q.below) (P.Policy.proper p.below) a.call
         (P.Policy.keeps p.below q.below (below_move (P.Policy.facts p.below) m) a.below) };
-
-    fn is_strict() -> bool {
-        P::is_strict()
-    }
 
     fn begin(&mut self, task: u8) -> Result<Granted, PolicyFault> {
         self.below.begin(task)

@@ -13,18 +13,18 @@ use policy::Policy;
 // Every run of a new table over P keeps the law; stages and policy agree after every call; and a collect makes no more reads than it
 // may. The answer is whether P is strict.
 pub fn law_stands<P: Policy>() -> bool
-    ensures strict { result ≡ P.Policy.strict }
-    ensures law { LawStands P.Policy.facts P.Policy.after P.Policy.strict }
-    ensures sound { StaysSound P.Policy.facts P.Policy.after P.Policy.strict }
+    ensures strict { result ≡ P.Policy.STRICT }
+    ensures law { LawStands P.Policy.facts P.Policy.after P.Policy.STRICT }
+    ensures sound { StaysSound P.Policy.facts P.Policy.after P.Policy.STRICT }
     ensures counts { CountBounds }
 {
-    P::is_strict()
+    P::STRICT
 }
 
 // A transaction that overlaps no other is never refused by P. The answer is whether a task that is behind may commit what it only read.
 pub fn never_refused_alone<P: Policy>() -> bool
-    ensures lenient { result ≡ not P.Policy.strict }
-    ensures alone { NeverRefusedAlone P.Policy.facts P.Policy.after P.Policy.strict }
+    ensures lenient { result ≡ not P.Policy.STRICT }
+    ensures alone { NeverRefusedAlone P.Policy.facts P.Policy.after P.Policy.STRICT }
 {
     !law_stands::<P>()
 }

@@ -67,7 +67,7 @@ impl Policy for Lock {
 
     ghost facts = { lock_facts };
 
-    ghost strict = { true };
+    ghost STRICT = { true };
 
     ghost after = { After };
 
@@ -78,10 +78,6 @@ impl Policy for Lock {
     ghost proper = { λ p. Bars.proper (held p) (sound p.transactions) };
 
     ghost keeps = { λ p q m a. subst (λ s. Keeps true m (facts_of (held p)) (facts_of s)) (sym a.sets) (KeepsProof.keeps (held p) (sound p.transactions) p.apart m a.call) };
-
-    fn is_strict() -> bool {
-        Self::STRICT
-    }
 
     fn begin(&mut self, task: u8) -> Result<Granted, PolicyFault> {
         if !self.transactions.is_idle(task) {

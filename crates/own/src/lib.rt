@@ -105,7 +105,7 @@ impl Policy for Own {
 
     ghost facts = { own_facts };
 
-    ghost strict = { true };
+    ghost STRICT = { true };
 
     ghost after = { After };
 
@@ -116,10 +116,6 @@ impl Policy for Own {
     ghost proper = { λ p. Bars.proper (state p) (sound p.transactions) };
 
     ghost keeps = { λ p q m a. subst (λ x. Keeps true m (facts_of (state p)) (facts_of x)) (sym a.holds) (KeepsProof.keeps (state p) (sound p.transactions) m a.call) };
-
-    fn is_strict() -> bool {
-        Self::STRICT
-    }
 
     fn begin(&mut self, task: u8) -> Result<Granted, PolicyFault> {
         if !self.transactions.is_idle(task) {

@@ -17,7 +17,7 @@ use table::table::Table;
 
 // Does what a line says, if it is a command.
 fn obey<P: Policy>(table: &mut Table<P>, line: Line) -> Reply
-    ensures { Sound P.Policy.facts (view table.old) → Obeyed P.Policy.facts P.Policy.after P.Policy.strict line.entry.bytes.now (view table.old) (reply_text result) (view table.new) }
+    ensures { Sound P.Policy.facts (view table.old) → Obeyed P.Policy.facts P.Policy.after P.Policy.STRICT line.entry.bytes.now (view table.old) (reply_text result) (view table.new) }
 {
     let command = line.command()?;
     match perform(table, command) {
@@ -36,7 +36,7 @@ pub(crate) fn run_over<P: Policy + Drop>(
     room: &mut [u8],
 ) -> Result<usize, NoRoom>
     requires { 0 < length (lines_of text.now) }
-    ensures fronts { Fronts (Over P.Policy.facts P.Policy.after P.Policy.strict policy) (drop 1 (lines_of text.now)) room.old result room.new }
+    ensures fronts { Fronts (Over P.Policy.facts P.Policy.after P.Policy.STRICT policy) (drop 1 (lines_of text.now)) room.old result room.new }
     ensures within { Within (longest_line * length (lines_of text.now)) 0 room.old result }
 {
     let mut table = Table::new(policy);

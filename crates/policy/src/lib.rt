@@ -43,14 +43,18 @@ pub trait Policy {
 
     ghost facts: { Self → Facts };
 
-    ghost strict: { Bool };
+    // whether a task that is behind may not even commit what it only read
+    ghost STRICT: { Bool };
 
     ghost after: { Self → Move → Self → Type 0 };
 
     const STRICT: bool;
 
     fn is_strict() -> bool
-        ensures { result ≡ strict };
+        ensures { result ≡ STRICT }
+    {
+        Self::STRICT
+    }
 
     fn begin(&mut self, task: u8) -> Result<Granted, PolicyFault>
         ensures answer { result ≡ begin_answer (facts self.old) task }
@@ -65,7 +69,7 @@ pub trait Policy {
         ensures moved { Moved after (writing task variable) (write_refused task variable) self.old self.new result };
 
     fn commit(&mut self, task: u8) -> Result<Granted, PolicyFault>
-        ensures answer { result ≡ commit_answer strict (facts self.old) task }
+        ensures answer { result ≡ commit_answer STRICT (facts self.old) task }
         ensures moved { Moved after (commits task) (commit_refused task) self.old self.new result };
 
     fn abort(&mut self, task: u8) -> Result<Granted, PolicyFault>
@@ -82,5 +86,5 @@ pub trait Policy {
 
     ghost proper: { (p : Self) → Proper (facts p) };
 
-    ghost keeps: { (p q : Self) (m : Move) → after p m q → Keeps strict m (facts p) (facts q) };
+    ghost keeps: { (p q : Self) (m : Move) → after p m q → Keeps STRICT m (facts p) (facts q) };
 }

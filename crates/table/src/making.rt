@@ -32,7 +32,7 @@ impl<P: Policy> Table<P> {
     pub fn new(policy: P) -> Table<P>
         ensures new { New P.Policy.facts (view result) }
         ensures aborted { AbortedBelow P.Policy.facts P.Policy.after tasks policy result.policy }
-        ensures law { LawFrom P.Policy.facts P.Policy.after P.Policy.strict (view result) }
+        ensures law { LawFrom P.Policy.facts P.Policy.after P.Policy.STRICT (view result) }
     {
         let mut policy = policy;
         abort_all(&mut policy);

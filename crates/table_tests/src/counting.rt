@@ -41,7 +41,7 @@ impl<P: Policy> Policy for Counting<P> {
 
     ghost facts = { λ p. P.Policy.facts p.below };
 
-    ghost strict = { P.Policy.strict };
+    ghost STRICT = { P.Policy.STRICT };
 
     ghost after = { λ p m q. P.Policy.after p.below m q.below };
 
@@ -52,10 +52,6 @@ impl<P: Policy> Policy for Counting<P> {
     ghost proper = { λ p. P.Policy.proper p.below };
 
     ghost keeps = { Prim.search rules };
-
-    fn is_strict() -> bool {
-        P::is_strict()
-    }
 
     fn begin(&mut self, task: u8) -> Result<Granted, PolicyFault> {
         self.below.begin(task)

@@ -22,7 +22,7 @@ use Rattle.worked.proofs.Policies.{Held, held, meaning, shown, RightOver, runs_o
 
 -- what a table answers over a policy, by what the policy holds
 replied_held : (k : Kind) (c : Call) (a : State (PolicyOf k))
-    → replied (stated k).facts (stated k).strict c a ≡ replied (meaning k) (stated k).strict c (picture (held k) a)
+    → replied (stated k).facts (stated k).STRICT c a ≡ replied (meaning k) (stated k).STRICT c (picture (held k) a)
 replied_held lock c a = refl
 replied_held own c a = refl
 replied_held (clock start) c a = refl
@@ -88,7 +88,7 @@ asks l = in_case (answer_of l.reply) true (λ why. true) false
 abbrev pub moves_for : (k : Kind) → Line → List Line → List Move
 moves_for k l ls =
     cond (asks l)
-    (told_moves (granted_move l.call) (refused_move l.call) (asked_answer (stated k).strict l.call (meaning k (shown k ls).policy))) []
+    (told_moves (granted_move l.call) (refused_move l.call) (asked_answer (stated k).STRICT l.call (meaning k (shown k ls).policy))) []
 
 -- they are the moves of the table's step, line by line
 abbrev pub MovesRight : Kind → List Line → Type 0
@@ -100,7 +100,7 @@ abbrev pub Asked : (k : Kind) → Call → (PolicyOf k → Type 0) → PolicyOf 
 Asked k c earlier q =
     (p : PolicyOf k) × (r : Result Granted PolicyFault)
     × record {
-      answer : r ≡ asked_answer (stated k).strict c ((stated k).facts p);
+      answer : r ≡ asked_answer (stated k).STRICT c ((stated k).facts p);
       moved : Moved (stated k).after (granted_move c) (refused_move c) p q r;
     }
     × earlier p
@@ -117,7 +117,7 @@ record Reached (k : Kind) (ls : List Line) (p : PolicyOf k) : Type 0 where
   pub history : History
   pub new : New (stated k).facts start
   pub made : Made k start.policy
-  pub run : Leads (stated k).facts (stated k).after (stated k).strict start end history
+  pub run : Leads (stated k).facts (stated k).after (stated k).STRICT start end history
   pub same : calls_made history ≡ line_calls ls
   pub policy : end.policy ≡ p
 
@@ -146,7 +146,7 @@ module _ (k : Kind) (ls : List Line) (e : all_plain ls ≡ true) (right : RightO
       ∙ ap (λ (x : State (Held k)). meaning k x.policy) shows
 
   -- one more call, for which the policy makes these moves
-  moved_on : (l : Line) (q : PolicyOf k) → plain l.call ≡ true → Is l.reply (replied (meaning k) (stated k).strict l.call (shown k ls))
+  moved_on : (l : Line) (q : PolicyOf k) → plain l.call ≡ true → Is l.reply (replied (meaning k) (stated k).STRICT l.call (shown k ls))
       → Chain (stated k).after (moves l.call ((shown k ls).stage (task l.call)) (answer_of l.reply)) p q → Reached k (l ∷ ls) q
   moved_on l q plain-call reply chain = record {
     start = so_far.start;
@@ -155,15 +155,15 @@ module _ (k : Kind) (ls : List Line) (e : all_plain ls ≡ true) (right : RightO
     new = so_far.new;
     made = so_far.made;
     run = then l.call (answer_of l.reply) so_far.run
-        (plain_step (stated k).facts (stated k).after (stated k).strict l.call (answer_of l.reply) so_far.end q plain-call answered chained);
+        (plain_step (stated k).facts (stated k).after (stated k).STRICT l.call (answer_of l.reply) so_far.end q plain-call answered chained);
     same = ap (λ (cs : List Call). l.call ∷ cs) so_far.same;
     policy = refl;
   }
     where
-      answered : answer_of l.reply ≡ replied (stated k).facts (stated k).strict l.call so_far.end
+      answered : answer_of l.reply ≡ replied (stated k).facts (stated k).STRICT l.call so_far.end
       answered =
-          sym (replied_held k l.call so_far.end ∙ ap (replied (meaning k) (stated k).strict l.call) shows
-          ∙ is_stated l.reply (replied (meaning k) (stated k).strict l.call (shown k ls)) reply)
+          sym (replied_held k l.call so_far.end ∙ ap (replied (meaning k) (stated k).STRICT l.call) shows
+          ∙ is_stated l.reply (replied (meaning k) (stated k).STRICT l.call (shown k ls)) reply)
 
       chained : Chain (stated k).after (moves l.call (so_far.end.stage (task l.call)) (answer_of l.reply)) so_far.end.policy q
       chained =
@@ -173,15 +173,15 @@ module _ (k : Kind) (ls : List Line) (e : all_plain ls ≡ true) (right : RightO
           (sym so_far.policy) chain)
 
   -- the moves that the policy's answer tells of, by the facts so far
-  told : (c : Call) (q : PolicyOf k) (r : Result Granted PolicyFault) → r ≡ asked_answer (stated k).strict c ((stated k).facts p)
+  told : (c : Call) (q : PolicyOf k) (r : Result Granted PolicyFault) → r ≡ asked_answer (stated k).STRICT c ((stated k).facts p)
       → Moved (stated k).after (granted_move c) (refused_move c) p q r
-      → Chain (stated k).after (told_moves (granted_move c) (refused_move c) (asked_answer (stated k).strict c (meaning k (shown k ls).policy))) p q
+      → Chain (stated k).after (told_moves (granted_move c) (refused_move c) (asked_answer (stated k).STRICT c (meaning k (shown k ls).policy))) p q
   told c q r answer move =
-      told_chain (stated k).after (granted_move c) (refused_move c) p q (asked_answer (stated k).strict c (meaning k (shown k ls).policy))
-      (subst (Moved (stated k).after (granted_move c) (refused_move c) p q) (answer ∙ ap (asked_answer (stated k).strict c) facts_so_far) move)
+      told_chain (stated k).after (granted_move c) (refused_move c) p q (asked_answer (stated k).STRICT c (meaning k (shown k ls).policy))
+      (subst (Moved (stated k).after (granted_move c) (refused_move c) p q) (answer ∙ ap (asked_answer (stated k).STRICT c) facts_so_far) move)
 
 one_line : (k : Kind) (l : Line) (ls : List Line) (q : PolicyOf k) (asked : Bool) → all_plain (l ∷ ls) ≡ true → RightOver k (l ∷ ls)
-    → cond asked (told_moves (granted_move l.call) (refused_move l.call) (asked_answer (stated k).strict l.call (meaning k (shown k ls).policy))) []
+    → cond asked (told_moves (granted_move l.call) (refused_move l.call) (asked_answer (stated k).STRICT l.call (meaning k (shown k ls).policy))) []
     ≡ moves l.call ((shown k ls).stage (task l.call)) (answer_of l.reply)
     → ((p : PolicyOf k) → Play k ls p → Reached k ls p) → cond asked (Asked k l.call (λ p. Play k ls p) q) (Play k ls q) → Reached k (l ∷ ls) q
 one_line k l ls q true e right ms earlier play =

@@ -75,17 +75,17 @@ shown k ls = after_lines (meaning k) (after_move k) ls (new_table (first k))
 
 -- the replies of some lines are right over such a policy
 abbrev pub RightOver : Kind → List Line → Type 0
-RightOver k ls = Right (meaning k) (after_move k) (stated k).strict ls (new_table (first k))
+RightOver k ls = Right (meaning k) (after_move k) (stated k).STRICT ls (new_table (first k))
 
 -- every run of the calls of some lines over a new policy of this kind
 pub runs_over : (k : Kind) (ls : List Line) → all_plain ls ≡ true → RightOver k ls → (a b : State (PolicyOf k)) (h : History) → New (stated k).facts a
-    → Made k a.policy → Leads (stated k).facts (stated k).after (stated k).strict a b h → calls_made h ≡ line_calls ls
+    → Made k a.policy → Leads (stated k).facts (stated k).after (stated k).STRICT a b h → calls_made h ≡ line_calls ls
     → Replay (meaning k) (after_move k) ls h (new_table (first k)) (picture (held k) b)
-runs_over lock ls e right = runs (held lock) (meaning lock) (after_move lock) (stated lock).after (stated lock).strict (λ p q m s. s.sets) (first lock) ls e right
-runs_over own ls e right = runs (held own) (meaning own) (after_move own) (stated own).after (stated own).strict (λ p q m s. s.holds) (first own) ls e right
+runs_over lock ls e right = runs (held lock) (meaning lock) (after_move lock) (stated lock).after (stated lock).STRICT (λ p q m s. s.sets) (first lock) ls e right
+runs_over own ls e right = runs (held own) (meaning own) (after_move own) (stated own).after (stated own).STRICT (λ p q m s. s.holds) (first own) ls e right
 runs_over (clock start) ls e right =
-    runs (held (clock start)) (meaning (clock start)) (after_move (clock start)) (stated (clock start)).after (stated (clock start)).strict
+    runs (held (clock start)) (meaning (clock start)) (after_move (clock start)) (stated (clock start)).after (stated (clock start)).STRICT
     (λ p q m s. s.step) (first (clock start)) ls e right
 runs_over (eager_clock start) ls e right =
-    runs (held (eager_clock start)) (meaning (eager_clock start)) (after_move (eager_clock start)) (stated (eager_clock start)).after (stated (eager_clock start)).strict
+    runs (held (eager_clock start)) (meaning (eager_clock start)) (after_move (eager_clock start)) (stated (eager_clock start)).after (stated (eager_clock start)).STRICT
     (λ p q m s. s.below.step) (first (eager_clock start)) ls e right

@@ -178,7 +178,7 @@ Leaves k (clock_is n) b = clock_of k b.policy ≡ some n
 pub record RunOf (row : Row) (a b : State (PolicyOf row.over)) (h : History) : Type 0 where
   pub new : New (stated row.over).facts a
   pub made : Made row.over a.policy
-  pub run : Leads (stated row.over).facts (stated row.over).after (stated row.over).strict a b h
+  pub run : Leads (stated row.over).facts (stated row.over).after (stated row.over).STRICT a b h
   pub calls : calls_made h ≡ line_calls (reverse row.lines)
 
 -- every run of the row has its answers and leaves what it says

@@ -6,7 +6,7 @@ use Rattle.history.proofs.Stands.{law, stays_sound}
 pub returns : goal.returns
 returns g c = record {
   strict = search rules;
-  law = law g.P.Policy.facts g.P.Policy.after g.P.Policy.strict g.met.P.Policy.keeps g.met.P.Policy.proper;
-  sound = stays_sound g.P.Policy.facts g.P.Policy.after g.P.Policy.strict g.met.P.Policy.keeps g.met.P.Policy.proper;
+  law = law g.P.Policy.facts g.P.Policy.after g.P.Policy.STRICT g.met.P.Policy.keeps g.met.P.Policy.proper;
+  sound = stays_sound g.P.Policy.facts g.P.Policy.after g.P.Policy.STRICT g.met.P.Policy.keeps g.met.P.Policy.proper;
   counts = count_bounds;
 }

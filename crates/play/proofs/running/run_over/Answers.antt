@@ -16,9 +16,9 @@ returns-in_err-used g c =
     let e = c.in_err-used.ensures in
     let n = c.new-table.ensures in
     let ls = drop 1 (lines c.args.text.now) in record {
-      fronts = fronts_refused (Over f g.P.Policy.after g.P.Policy.strict c.args.policy) ls c.args.room.now c.put_line.new.room
+      fronts = fronts_refused (Over f g.P.Policy.after g.P.Policy.STRICT c.args.policy) ls c.args.room.now c.put_line.new.room
           c.from_residual.result p.0 p.1
-          (first_too_long f g.P.Policy.after g.P.Policy.strict c.args.policy (view c.new-table.result) ls (length c.args.room.now)
+          (first_too_long f g.P.Policy.after g.P.Policy.STRICT c.args.policy (view c.new-table.result) ls (length c.args.room.now)
           n.new n.aborted (omega (arith, e.added)));
       within = within_refused (longest_line * length (lines c.args.text.now)) 0 c.args.room.now c.from_residual.result p.0 p.1
           (omega (arith, e.within, c.requires));
@@ -33,7 +33,7 @@ loop-line-init g c =
     let k = c.put_line.auto.room in (
       tt,
       tt,
-      standing_first g.P.Policy.facts g.P.Policy.after g.P.Policy.strict (view c.new-table.result)
+      standing_first g.P.Policy.facts g.P.Policy.after g.P.Policy.STRICT (view c.new-table.result)
           (lines_left c.into_iter-line-iterator.result.rest) c.into_iter-line-iterator.result.count c.in_ok-used.used
           c.args.room.now c.put_line.new.room h.1 (n.law (view c.new-table.result) [] none_yet).sound p.added
           (omega (arith, p.within)),
@@ -55,13 +55,13 @@ returns-in_err-used-2 g c =
     let o = c.obey-reply.ensures i.2.sound in
     let ls = drop 1 (lines c.args.text.now) in
     let all = lines_left c.into_iter-line-iterator.result.rest in
-    let m = lines_counted f g.P.Policy.after g.P.Policy.strict (view c.new-table.result) (view c.loop-line.table) all
+    let m = lines_counted f g.P.Policy.after g.P.Policy.STRICT (view c.new-table.result) (view c.loop-line.table) all
     (lines_left c.loop-line.line-iterator.rest) c.loop-line.line-iterator.count (take c.loop-line.used c.loop-line.room)
     c.loop-line.used i.2 in
     let z = ap length s.0 in record {
-      fronts = fronts_refused (Over f g.P.Policy.after g.P.Policy.strict c.args.policy) ls c.args.room.now
+      fronts = fronts_refused (Over f g.P.Policy.after g.P.Policy.STRICT c.args.policy) ls c.args.room.now
           c.put_line-in-loop-line.new.room r.result p.0 p.1
-          (next_too_long f g.P.Policy.after g.P.Policy.strict c.args.policy (view c.new-table.result) (view c.loop-line.table)
+          (next_too_long f g.P.Policy.after g.P.Policy.STRICT c.args.policy (view c.new-table.result) (view c.loop-line.table)
           (view c.obey-reply.new.table) all (lines_left c.loop-line.line-iterator.rest) (lines_left c.next-in-loop-line.new.self.rest)
           c.in-Some.line.bytes.now c.loop-line.line-iterator.count c.in-Some.line.number (reply_text c.obey-reply.result)
           c.loop-line.used c.loop-line.room ls (length c.args.room.now) h.0 (sym k) n.new n.aborted s.0 s.1 i.2 o i.3
@@ -79,7 +79,7 @@ loop-line-preserved g c =
     let o = c.obey-reply.ensures i.2.sound in (
       tt,
       tt,
-      standing_next g.P.Policy.facts g.P.Policy.after g.P.Policy.strict (view c.new-table.result) (view c.loop-line.table)
+      standing_next g.P.Policy.facts g.P.Policy.after g.P.Policy.STRICT (view c.new-table.result) (view c.loop-line.table)
           (view c.obey-reply.new.table) (lines_left c.into_iter-line-iterator.result.rest) (lines_left c.loop-line.line-iterator.rest)
           (lines_left c.next-in-loop-line.new.self.rest) c.in-Some.line.bytes.now c.loop-line.line-iterator.count
           c.next-in-loop-line.new.self.count c.in-Some.line.number (reply_text c.obey-reply.result) c.loop-line.used
@@ -96,11 +96,11 @@ returns g c =
     let i = c.loop-line.invariant in
     let s = c.in-None.ensures.steps in
     let all = lines_left c.into_iter-line-iterator.result.rest in
-    let m = lines_counted f g.P.Policy.after g.P.Policy.strict (view c.new-table.result) (view c.loop-line.table) all
+    let m = lines_counted f g.P.Policy.after g.P.Policy.STRICT (view c.new-table.result) (view c.loop-line.table) all
     (lines_left c.loop-line.line-iterator.rest) c.loop-line.line-iterator.count (take c.loop-line.used c.loop-line.room)
     c.loop-line.used i.2 in record {
       fronts = (
-        all_played f g.P.Policy.after g.P.Policy.strict c.args.policy (view c.new-table.result) (view c.loop-line.table) all
+        all_played f g.P.Policy.after g.P.Policy.STRICT c.args.policy (view c.new-table.result) (view c.loop-line.table) all
             (lines_left c.loop-line.line-iterator.rest) c.loop-line.line-iterator.count (take c.loop-line.used c.loop-line.room)
             c.loop-line.used (drop 1 (lines c.args.text.now)) h.0 n.new n.aborted s.0 i.2,
         i.3,

@@ -8,6 +8,6 @@ use Rattle.play.proofs.running.run_over.Given as goal
 abbrev pub invariant-loop-line : goal.invariant-loop-line
 invariant-loop-line g l =
     (goal.iterator-loop-line g).can_next l.line-iterator × (goal.iterator-loop-line g).is_finite l.line-iterator
-    × Standing g.P.Policy.facts g.P.Policy.after g.P.Policy.strict (view l.initial.table) (lines_left l.initial.line-iterator.rest)
+    × Standing g.P.Policy.facts g.P.Policy.after g.P.Policy.STRICT (view l.initial.table) (lines_left l.initial.line-iterator.rest)
     (lines_left l.line-iterator.rest) l.line-iterator.count (take l.used l.room) l.used (view l.table)
     × (l.used ≤ length l.room)

@@ -9,7 +9,7 @@ loop-task-init g c = cleared_none g.P.Policy.facts g.P.Policy.after c.args.polic
 pub loop-task-preserved : goal.loop-task-preserved
 loop-task-preserved g c =
     let below : c.loop-task.task < tasks = omega arith in
-    cleared_more g.P.Policy.facts g.P.Policy.after g.P.Policy.strict g.met.P.Policy.keeps
+    cleared_more g.P.Policy.facts g.P.Policy.after g.P.Policy.STRICT g.met.P.Policy.keeps
     c.args.policy.now c.loop-task.policy c.abort.new.self c.loop-task.task c.abort.result below
     c.loop-task.invariant c.abort.ensures.answer c.abort.ensures.moved
 

@@ -10,6 +10,6 @@ returns g c =
     record {
       new = made;
       aborted = c.abort_all.ensures.aborted;
-      law = law_from g.P.Policy.facts g.P.Policy.after g.P.Policy.strict g.met.P.Policy.keeps g.met.P.Policy.proper
+      law = law_from g.P.Policy.facts g.P.Policy.after g.P.Policy.STRICT g.met.P.Policy.keeps g.met.P.Policy.proper
           (state c.abort_all.new.policy c.all_idle.result c.zeros.result) made;
     }
