@@ -33,9 +33,7 @@ fn number_field(text: &[u8], top: u32) -> Option<u32>
     ensures bound { IfSome result (λ n. n ≤ top) }
 {
     match text {
-        [] => None,
-        [_] => total(text, top),
-        [b'0', ..] => None,
+        [] | [b'0', _, ..] => None,
         _ => total(text, top),
     }
 }
@@ -44,20 +42,16 @@ fn number_field(text: &[u8], top: u32) -> Option<u32>
 pub(crate) fn index_field(text: &[u8]) -> Option<u8>
     ensures { result ≡ number_field highest_index text.now }
 {
-    match number_field(text, HIGHEST_INDEX) {
-        Some(n) => Some(n as u8),
-        None => None,
-    }
+    number_field(text, HIGHEST_INDEX).map(|n| n as u8)
 }
 
 // A value after its minus.
 fn negative_field(digits: &[u8]) -> Option<i32>
     ensures { result ≡ negative (number_field lowest_value digits.now) }
 {
-    match number_field(digits, LOWEST_VALUE) {
-        Some(n) if n > 0 => Some((-i64::from(n)) as i32),
-        _ => None,
-    }
+    number_field(digits, LOWEST_VALUE)
+        .filter(|n| *n > 0)
+        .map(|n| (-i64::from(n)) as i32)
 }
 
 // A signed value.
@@ -66,9 +60,6 @@ pub(crate) fn value_field(text: &[u8]) -> Option<i32>
 {
     match text {
         [b'-', digits @ ..] => negative_field(digits),
-        _ => match number_field(text, HIGHEST_VALUE) {
-            Some(n) => Some(n as i32),
-            None => None,
-        },
+        _ => number_field(text, HIGHEST_VALUE).map(|n| n as i32),
     }
 }

@@ -5,10 +5,8 @@ ghost use Rattle.schedule.specs.Pieces.{Cut};
 pub(crate) fn cut(text: &[u8], at: u8) -> (&[u8], Option<&[u8]>)
     ensures { Cut at text.now result.0.now result.1 }
 {
-    for (i, b) in text.iter().enumerate() {
-        if *b == at {
-            return (&text[0..i], Some(&text[i + 1..]));
-        }
+    match text.iter().position(|b| *b == at) {
+        Some(i) => (&text[..i], Some(&text[i + 1..])),
+        None => (text, None),
     }
-    (text, None)
 }
