@@ -1,7 +1,6 @@
 pub mod Sums
 pub mod Cuts
 pub mod Feeds
-pub mod Letters
 pub mod Numerals
 pub mod Writing
 pub mod Departing

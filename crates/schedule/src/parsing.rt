@@ -1,47 +1,44 @@
 // A command line, taken apart.
 ghost use Rattle.std.specs.Prelude.{◌≡◌};
-ghost use Rattle.schedule.specs.Pieces.{fields_left};
 ghost use Rattle.schedule.specs.Grammar.{read_of, write_of, lettered as by_letter, parsed};
 ghost use Rattle.schedule.specs.Written.{Taken};
 
-use crate::command::{Command, Misfit, NO_LETTER};
+use crate::command::{Command, Misfit, NO_LETTER, NO_TASK, NO_VALUE, NO_VARIABLE};
 use crate::fields::Fields;
 
 fn read(mut fields: Fields) -> Result<Command, Misfit>
-    ensures { result ≡ read_of (fields_left fields.entry.left) }
+    ensures { result ≡ read_of fields.entry }
 {
-    let task = fields.task()?;
-    let variable = fields.last_variable()?;
-    Ok(Command::Read { task, variable })
+    Ok(Command::Read {
+        task: fields.take(NO_TASK)?,
+        variable: fields.last(NO_VARIABLE)?,
+    })
 }
 
 fn write(mut fields: Fields) -> Result<Command, Misfit>
-    ensures { result ≡ write_of (fields_left fields.entry.left) }
+    ensures { result ≡ write_of fields.entry }
 {
-    let task = fields.task()?;
-    let variable = fields.variable()?;
-    let value = fields.last_value()?;
     Ok(Command::Write {
-        task,
-        variable,
-        value,
+        task: fields.take(NO_TASK)?,
+        variable: fields.take(NO_VARIABLE)?,
+        value: fields.last(NO_VALUE)?,
     })
 }
 
 fn lettered(letter: char, fields: Fields) -> Result<Command, Misfit>
-    ensures { result ≡ by_letter letter (fields_left fields.entry.left) }
+    ensures { result ≡ by_letter letter fields.entry }
 {
     match letter {
         'B' => Ok(Command::Begin {
-            task: fields.last_task()?,
+            task: fields.last(NO_TASK)?,
         }),
         'R' => read(fields),
         'W' => write(fields),
         'C' => Ok(Command::Commit {
-            task: fields.last_task()?,
+            task: fields.last(NO_TASK)?,
         }),
         'A' => Ok(Command::Abort {
-            task: fields.last_task()?,
+            task: fields.last(NO_TASK)?,
         }),
         _ => Err(NO_LETTER),
     }
@@ -53,7 +50,6 @@ pub fn parse(line: &[u8]) -> Result<Command, Misfit>
     ensures taken { Taken line.now result }
 {
     match line {
-        [] => Err(NO_LETTER),
         [letter] => lettered(char::from(*letter), Fields::none()),
         [letter, b' ', rest @ ..] => lettered(char::from(*letter), Fields::new(rest)),
         _ => Err(NO_LETTER),
