@@ -1,11 +1,12 @@
 -- Number fields read just what is written of a number.
-use Rattle.std.proofs.Common.{◌≡◌, ℕ, zero, suc, ◌^◌, ◌<◌, ◌≤◌, Bool, true, false, eqb, List, [], ◌∷◌, length, get_or, ℤ, pos, negsuc, Some, None, decimal, Option, sym, refl, ap, ◌∙◌, subst, arith, rules, eqb-true}
+use Rattle.std.proofs.Common.{◌≡◌, ℕ, zero, suc, ◌^◌, ◌<◌, ◌≤◌, Bool, true, false, eqb, List, [], ◌∷◌, length, get_or, ℤ, pos, negsuc, Some, None, decimal, codes, Option, sym, refl, ap, ◌∙◌, subst, arith, rules, eqb-true}
 use Rattle.std.proofs.lemmas.Str.Parse.{IsNumeralModel, numerals_by_fold, tells_all_ascii_digits, not_in_digits}
 use Rattle.std.proofs.lemmas.Fmt.{digits_decimal, digits_value-decimal, decimal-digits_value, decimal_nonempty, decimal_digit, first_decimal}
 use Rattle.std.proofs.lemmas.Bool.Decides.{nat_tests}
 use Rattle.std.specs.Str.{all_ascii_digits}
 use Rattle.std.specs.Fmt.{signed_decimal}
 use Rattle.std.specs.Option.{option_map}
+use Rattle.schedule.specs.Texts.{longest_text}
 use Rattle.schedule.specs.Pieces.{space, Clear}
 use Rattle.schedule.specs.Written.{InValue}
 use Rattle.schedule.specs.Numbers.{value_after, digits_after, number_field, negative, value_field, highest_value, lowest_value}
@@ -116,3 +117,7 @@ pub signed_clear : (z : ℤ) → InValue z → Clear space (signed_decimal z)
 signed_clear (pos n) h k l q = decimal_clear n space (omega arith) (omega arith) k l q
 signed_clear (negsuc n) h zero l q = omega arith
 signed_clear (negsuc n) h (suc k) l q = decimal_clear (suc n) space (omega arith) (omega arith) k (omega arith) q
+
+-- the number of bytes that a text may have, as it is printed
+pub limit_written : decimal longest_text ≡ codes "60000"
+limit_written = decimal-digits_value own (codes "60000") refl (omega arith) (λ z. absurd (omega arith)) (omega arith)

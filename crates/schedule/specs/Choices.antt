@@ -1,5 +1,6 @@
 -- The first line of a schedule.
-use Rattle.std.specs.Prelude.{◌≡◌, ℕ, cond, List, [], ◌∷◌, ◌++◌, Some, None, codes, Option, ◌≢◌}
+use Rattle.std.specs.Prelude.{◌≡◌, ℕ, List, [], ◌∷◌, ◌++◌, Some, None, codes, Option, ◌≢◌}
+use Rattle.std.specs.List.{find}
 use Rattle.std.specs.Str.{bytes_eq}
 use Rattle.schedule.specs.declared.choice.Kind.{Kind}
 use Rattle.schedule.specs.declared.choice.Kind.TheVariants.{Lock, Own, Clock}
@@ -16,17 +17,12 @@ abbrev pub first_line : Choice → List ℕ
 first_line (Plain k) = name k
 first_line (Eager k) = codes "eager " ++ name k
 
--- the first of the choices cs whose line is s
-abbrev pub among : List Choice → List ℕ → Option Choice
-among [] s = None
-among (c ∷ cs) s = cond (bytes_eq s (first_line c)) (Some c) (among cs s)
-
 abbrev pub choices : List Choice
 choices = Plain Lock ∷ Plain Own ∷ Plain Clock ∷ Eager Lock ∷ Eager Own ∷ Eager Clock ∷ []
 
--- the choice that a first line names
+-- the choice that a first line names: the first whose line it is
 abbrev pub chosen : List ℕ → Option Choice
-chosen s = among choices s
+chosen s = find (λ c. bytes_eq s (first_line c)) choices
 
 -- a first line names a choice exactly if it is what is written of it
 abbrev pub Chosen : List ℕ → Option Choice → Type 0

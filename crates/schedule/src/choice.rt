@@ -1,6 +1,11 @@
 // The first line of a schedule: which policy it is for.
 ghost use Rattle.std.specs.Prelude.{◌≡◌};
+ghost use Rattle.std.specs.Option.{ok_or};
+ghost use Rattle.std.specs.Result.{result_ok};
 ghost use Rattle.schedule.specs.Choices.{first_line, chosen, Chosen};
+
+use crate::fault::UnknownPolicy;
+use std::convert::TryFrom;
 
 #[derive(Clone, Copy, Debug, PartialEq, Eq)]
 pub enum Kind {
@@ -26,7 +31,7 @@ const CHOICES: [Choice; 6] = [
 ];
 
 impl Choice {
-    // The first line that names it.
+    // The first line that names it. A method and no conversion: what it gives is looked up and compared, and `name` says so.
     pub fn name(self) -> &'static [u8]
         ensures { result.now ≡ first_line self }
     {
@@ -41,15 +46,17 @@ impl Choice {
     }
 }
 
-// The choice that a first line names, if it names one.
-pub fn choose(line: &[u8]) -> Option<Choice>
-    ensures value { result ≡ chosen line.now }
-    ensures taken { Chosen line.now result }
-{
-    for choice in CHOICES {
-        if line == choice.name() {
-            return Some(choice);
-        }
+// The choice that a first line names.
+impl TryFrom<&[u8]> for Choice {
+    type Error = UnknownPolicy;
+
+    ghost try_from_gives = { λ line r. (r ≡ ok_or (chosen line.now) (record {})) × Chosen line.now (result_ok r) };
+
+    fn try_from(line: &[u8]) -> Result<Choice, UnknownPolicy> {
+        CHOICES
+            .iter()
+            .find(|choice| line == choice.name())
+            .copied()
+            .ok_or(UnknownPolicy)
     }
-    None
 }

@@ -1,7 +1,7 @@
 // What can be wrong with a schedule text.
 ghost use Rattle.std.specs.Prelude.{◌≡◌};
 ghost use Rattle.schedule.specs.Faults.{fault_line, fault_number};
-ghost use Rattle.schedule.specs.declared.fault.TextFault.TheVariants.{Misshapen as misshapen, TooLong as too_long, Refused as refused};
+ghost use Rattle.schedule.specs.declared.fault.TextFault.TheVariants.{Misshapen as misshapen, NoPolicy as no_policy, TooLong as too_long, Refused as refused};
 
 use crate::command::Misfit;
 use refusal::Refusal;
@@ -25,10 +25,9 @@ impl<F> TextFault<F> {
         ensures { result ≡ fault_line self.now }
     {
         match self {
-            TextFault::Misshapen { line, .. } => *line,
+            TextFault::Misshapen { line, .. } | TextFault::Refused { line, .. } => *line,
             TextFault::NoPolicy => 1,
             TextFault::TooLong => 0,
-            TextFault::Refused { line, .. } => *line,
         }
     }
 }
@@ -39,6 +38,10 @@ pub struct BadLine {
     pub line: usize,
     pub misfit: Misfit,
 }
+
+// A first line that names no policy.
+#[derive(Clone, Copy, Debug, PartialEq, Eq)]
+pub struct UnknownPolicy;
 
 // A text that is too long.
 #[derive(Clone, Copy, Debug, PartialEq, Eq)]
@@ -59,6 +62,14 @@ impl<F> From<BadLine> for TextFault<F> {
             line: bad.line,
             misfit: bad.misfit,
         }
+    }
+}
+
+impl<F> From<UnknownPolicy> for TextFault<F> {
+    ghost from_gives = { λ _ r. r ≡ no_policy };
+
+    fn from(_unknown: UnknownPolicy) -> TextFault<F> {
+        Self::NoPolicy
     }
 }
 

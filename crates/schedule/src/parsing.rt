@@ -45,6 +45,7 @@ fn lettered(letter: char, fields: Fields) -> Result<Command, Misfit>
 }
 
 // The command that a line is, or the first field that makes it none.
+// A function and no `TryFrom`: it has two facts, each of its own name, where a conversion has one.
 pub fn parse(line: &[u8]) -> Result<Command, Misfit>
     ensures value { result ≡ parsed line.now }
     ensures taken { Taken line.now result }

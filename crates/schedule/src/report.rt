@@ -42,10 +42,7 @@ fn check_lines(text: &[u8], faults: &mut Vec<TextFault<NoRefusal>>) -> Result<us
     ensures { IfOk result (λ n. (n ≡ length (lines text.now)) × (faults.new.items ≡ faults.old.items ++ command_faults (lines text.now))) }
 {
     let mut lines = Lines::new(text);
-    let mut count = match lines.next() {
-        Some(first) => first.number,
-        None => 0,
-    };
+    let mut count = lines.next().map_or(0, |first| first.number);
     for line in lines {
         count = line.number;
         note(judge(line), faults)?;
@@ -59,9 +56,10 @@ pub fn check(heap: Global, text: &[u8]) -> Result<Report, AllocError>
 {
     let mut faults = Vec::new(heap);
     note(header(text), &mut faults)?;
-    let mut lines = 0;
-    if within_limit(text).is_ok() {
-        lines = check_lines(text, &mut faults)?;
-    }
+    let lines = if within_limit(text).is_ok() {
+        check_lines(text, &mut faults)?
+    } else {
+        0
+    };
     Ok(Report { faults, lines })
 }

@@ -3,27 +3,25 @@ ghost use Rattle.std.specs.Prelude.{◌≡◌};
 ghost use Rattle.schedule.specs.Grammar.{parsed};
 ghost use Rattle.schedule.specs.Texts.{header_of, command_at, short_enough};
 
-use crate::choice::{Choice, choose};
+use crate::choice::Choice;
 use crate::command::Command;
-use crate::fault::{BadLine, OverLong, TextFault};
+use crate::fault::{BadLine, OverLong, TextFault, UnknownPolicy};
 use crate::lines::{Line, Lines};
 use crate::parsing::parse;
 
 // How many bytes a text may have.
 pub const LONGEST_TEXT: usize = 60_000;
 
+// How many bytes of an input are read: one more, so that a text that is too long is seen to be.
+pub const MOST_READ: u64 = LONGEST_TEXT as u64 + 1;
+
 impl Line<'_> {
     // The command of a line after the first.
     pub fn command(&self) -> Result<Command, BadLine>
         ensures { result ≡ command_at self.now.number (parsed self.now.bytes.now) }
     {
-        match parse(self.bytes) {
-            Ok(command) => Ok(command),
-            Err(misfit) => Err(BadLine {
-                line: self.number,
-                misfit,
-            }),
-        }
+        let line = self.number;
+        parse(self.bytes).map_err(|misfit| BadLine { line, misfit })
     }
 }
 
@@ -42,11 +40,6 @@ pub fn header<F>(text: &[u8]) -> Result<Choice, TextFault<F>>
     ensures { result ≡ header_of text.now }
 {
     within_limit(text)?;
-    match Lines::new(text).next() {
-        Some(line) => match choose(line.bytes) {
-            Some(choice) => Ok(choice),
-            None => Err(TextFault::NoPolicy),
-        },
-        None => Err(TextFault::NoPolicy),
-    }
+    let line = Lines::new(text).next().ok_or(UnknownPolicy)?;
+    Ok(Choice::try_from(line.bytes)?)
 }

@@ -1,5 +1,6 @@
 // First lines.
-use schedule::choice::{Choice, Kind, choose};
+use schedule::choice::{Choice, Kind};
+use std::convert::TryFrom;
 use std::process::Abort;
 
 const NAMELESS: [&[u8]; 14] = [
@@ -19,9 +20,13 @@ const NAMELESS: [&[u8]; 14] = [
     b"clock\0",
 ];
 
+fn named(line: &[u8]) -> Option<Choice> {
+    Choice::try_from(line).ok()
+}
+
 fn none_names_a_policy(rt: &impl Abort, lines: &[&[u8]]) {
     for line in lines {
-        assert_eq!(rt; choose(line), None);
+        assert_eq!(rt; named(line), None);
     }
 }
 
@@ -32,10 +37,10 @@ fn other_first_lines_name_no_policy(rt: HostRuntime) {
 
 #[test]
 fn each_policy_has_its_line(rt: HostRuntime) {
-    assert_eq!(rt; choose(b"lock"), Some(Choice::Plain(Kind::Lock)));
-    assert_eq!(rt; choose(b"own"), Some(Choice::Plain(Kind::Own)));
-    assert_eq!(rt; choose(b"clock"), Some(Choice::Plain(Kind::Clock)));
-    assert_eq!(rt; choose(b"eager lock"), Some(Choice::Eager(Kind::Lock)));
-    assert_eq!(rt; choose(b"eager own"), Some(Choice::Eager(Kind::Own)));
-    assert_eq!(rt; choose(b"eager clock"), Some(Choice::Eager(Kind::Clock)));
+    assert_eq!(rt; named(b"lock"), Some(Choice::Plain(Kind::Lock)));
+    assert_eq!(rt; named(b"own"), Some(Choice::Plain(Kind::Own)));
+    assert_eq!(rt; named(b"clock"), Some(Choice::Plain(Kind::Clock)));
+    assert_eq!(rt; named(b"eager lock"), Some(Choice::Eager(Kind::Lock)));
+    assert_eq!(rt; named(b"eager own"), Some(Choice::Eager(Kind::Own)));
+    assert_eq!(rt; named(b"eager clock"), Some(Choice::Eager(Kind::Clock)));
 }
