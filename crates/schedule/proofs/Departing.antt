@@ -117,7 +117,7 @@ module _ {X : Type 0} {reads : List ℕ → Option X} {writes : X → List ℕ} 
     beyond : (m : ℕ) (y : X) (gs : List (List ℕ)) → Agree (suc m) fs (writes y ∷ gs) → Agree m rest gs
 
   unread : (f : List ℕ) (rest : List (List ℕ)) → reads f ≡ None → NoneNext (f ∷ rest)
-  unread f rest e x h gs a = let b = form.back x h in let q = ap reads a.0 in let z : ◌≡◌ {A = ℕ} 0 1 = cc in omega arith
+  unread f rest e x h gs a = let b = form.back x h in let q = ap reads a.0 in cc
 
   is_next : (f : List ℕ) (rest : List (List ℕ)) (x : X) → reads f ≡ Some x → IsNext (f ∷ rest) x rest
   is_next f rest x e =
@@ -141,7 +141,7 @@ module _ {X : Type 0} {reads : List ℕ → Option X} {writes : X → List ℕ} 
   last_errs n fs w e = by (next_errs fs (λ x rest. ends n rest x) w e)
     where
       more : (x : X) (rest : List (List ℕ)) → ends n rest x ≡ Err w → (w ≡ no_end n) × (Agree 1 rest [] → ⊥)
-      more x [] h = let z : ◌≡◌ {A = ℕ} 0 1 = cc in absurd (omega arith)
+      more x [] h = absurd (cc)
       more x (g ∷ gs) h = (cc, λ a. a)
 
       by : ((w ≡ wrong) × NoneNext fs) ⊎ ((x : X) × (rest : List (List ℕ)) × IsNext fs x rest × (ends n rest x ≡ Err w))
@@ -150,7 +150,7 @@ module _ {X : Type 0} {reads : List ℕ → Option X} {writes : X → List ℕ} 
       by (inr h) = let k = more h.0 h.1 h.3 in inr (h.0, h.1, h.2, k.0, k.1)
 
 made_errs : {X : Type 0} (make : X → Command) (r : Result X Misfit) (w : Misfit) → made make r ≡ Err w → r ≡ Err w
-made_errs make (Ok x) w e = let z : ◌≡◌ {A = ℕ} 0 1 = cc in absurd (omega arith)
+made_errs make (Ok x) w e = absurd (cc)
 made_errs make (Err v) w e = cc
 
 -- where the fields after a letter go wrong
@@ -325,14 +325,14 @@ lettered_errs l fs w e = letter_b (eqb l 66) refl e
 departs_by : (s : List ℕ) (gs : List (List ℕ)) (w : Misfit) → fields s ≡ gs → command_of gs ≡ Err w → Departs s w
 departs_by s [] w q e = subst (Departs s) (cc) (letter_departs s [] q (λ c a. a))
 departs_by s ([] ∷ fs) w q e =
-    subst (Departs s) (cc) (letter_departs s ([] ∷ fs) q (λ c a. let p = a.0 in let z : ◌≡◌ {A = ℕ} 0 1 = cc in omega arith))
+    subst (Departs s) (cc) (letter_departs s ([] ∷ fs) q (λ c a. let p = a.0 in cc))
 departs_by s ((l ∷ []) ∷ fs) w q e = by (lettered_errs l fs w e)
   where
     by : Errs l fs w ⊎ ((w ≡ no_letter) × ((c : Command) → l ≡ letter c → ⊥)) → Departs s w
     by (inl h) = tail_departs s l fs h.0 w q h.1 h.2
     by (inr h) = subst (Departs s) (sym h.0) (letter_departs s ((l ∷ []) ∷ fs) q (λ c a. let p = a.0 in h.1 c (cc)))
 departs_by s ((l ∷ b ∷ r) ∷ fs) w q e =
-    subst (Departs s) (cc) (letter_departs s ((l ∷ b ∷ r) ∷ fs) q (λ c a. let p = a.0 in let z : ◌≡◌ {A = ℕ} 0 1 = cc in omega arith))
+    subst (Departs s) (cc) (letter_departs s ((l ∷ b ∷ r) ∷ fs) q (λ c a. let p = a.0 in cc))
 
 -- a refused line departs in the field that is named
 pub departs : (s : List ℕ) (w : Misfit) → parsed s ≡ Err w → Departs s w

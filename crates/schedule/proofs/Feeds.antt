@@ -33,7 +33,7 @@ lines_joined (b ∷ c ∷ s) = by (eqb b line_feed) refl (lines (c ∷ s)) (line
     by : (t : Bool) → eqb b line_feed ≡ t → (ls : List (List ℕ)) → with_feeds ls ≡ c ∷ (s ++ cond (closed (c ∷ s)) [] (line_feed ∷ []))
         → with_feeds (cond t ([] ∷ ls) (longer b ls)) ≡ b ∷ c ∷ (s ++ cond (closed (c ∷ s)) [] (line_feed ∷ []))
     by true q ls h = let e = eqb-true b line_feed q in cc
-    by false q [] h = let z : ◌≡◌ {A = ℕ} 0 1 = cc in absurd (omega arith)
+    by false q [] h = absurd (cc)
     by false q (l ∷ ls) h = ap (λ (x : List ℕ). b ∷ x) h
 
 pub whole : (s : List ℕ) → Whole s (lines s)

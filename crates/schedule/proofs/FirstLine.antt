@@ -1,7 +1,6 @@
 -- A first line names a choice exactly if it is what is written of it.
-use Rattle.std.proofs.Common.{◌≡◌, ℕ, find, Bool, true, false, cond, List, [], ◌∷◌, Some, None, Option, Result, sym, refl, ap, ◌∙◌, subst, arith}
+use Rattle.std.proofs.Common.{◌≡◌, ℕ, find, Bool, true, false, cond, List, [], ◌∷◌, Some, None, Option, Result, sym, refl, ap, ◌∙◌, subst}
 use Rattle.std.proofs.lemmas.Slice.Eq.{bytes_eq-Decides}
-use Rattle.std.specs.List.{AllByRecursion as All}
 use Rattle.std.specs.Option.{ok_or}
 use Rattle.std.specs.Result.{result_ok}
 use Rattle.std.specs.Str.{bytes_eq}
@@ -13,34 +12,24 @@ use Rattle.schedule.specs.Choices.{first_line, choices, chosen, Chosen}
 
 -- what is found is written so
 found : (cs : List Choice) (s : List ℕ) {c : Choice} → find (λ c. bytes_eq s (first_line c)) cs ≡ Some c → s ≡ first_line c
-found [] s e = let z : ◌≡◌ {A = ℕ} 0 1 = cc in absurd (omega arith)
+found [] s e = absurd (cc)
 found (d ∷ cs) s {c} e = by (bytes_eq s (first_line d)) refl e (found cs s {c = c})
   where
     by : (t : Bool) → bytes_eq s (first_line d) ≡ t → cond t (Some d) (find (λ c. bytes_eq s (first_line c)) cs) ≡ Some c → (find (λ c. bytes_eq s (first_line c)) cs ≡ Some c → s ≡ first_line c) → s ≡ first_line c
     by true q h more = let e : d ≡ c = cc in (bytes_eq-Decides s (first_line d)).0 q ∙ ap first_line e
     by false q h more = more h
 
--- where nothing is found, no choice is written so
-not_found : (cs : List Choice) (s : List ℕ) → find (λ c. bytes_eq s (first_line c)) cs ≡ None → All (λ c. s ≡ first_line c → ⊥) cs
-not_found [] s e = tt
-not_found (d ∷ cs) s e = by (bytes_eq s (first_line d)) refl e (not_found cs s)
-  where
-    by : (t : Bool) → bytes_eq s (first_line d) ≡ t → cond t (Some d) (find (λ c. bytes_eq s (first_line c)) cs) ≡ None → (find (λ c. bytes_eq s (first_line c)) cs ≡ None → All (λ c. s ≡ first_line c → ⊥) cs)
-        → All (λ c. s ≡ first_line c → ⊥) (d ∷ cs)
-    by true q h more = let z : ◌≡◌ {A = ℕ} 0 1 = cc in absurd (omega arith)
-    by false q h more = ((λ p. let w = (bytes_eq-Decides s (first_line d)).1 p in let z : false ≡ true = sym q ∙ w in grind arith), more h)
-
--- every choice is in the list
-listed : (P : Choice → Type 0) → All P choices → (c : Choice) → P c
-listed P h (Plain Lock) = h.0
-listed P h (Plain Own) = h.1.0
-listed P h (Plain Clock) = h.1.1.0
-listed P h (Eager Lock) = h.1.1.1.0
-listed P h (Eager Own) = h.1.1.1.1.0
-listed P h (Eager Clock) = h.1.1.1.1.1.0
+-- what is written of a choice names it
+written_names : (c : Choice) → chosen (first_line c) ≡ Some c
+written_names (Plain Lock) = refl
+written_names (Plain Own) = refl
+written_names (Plain Clock) = refl
+written_names (Eager Lock) = refl
+written_names (Eager Own) = refl
+written_names (Eager Clock) = refl
 
 names : (s : List ℕ) (r : Option Choice) → r ≡ chosen s → Chosen s r
-names s None e = listed (λ c. s ≡ first_line c → ⊥) (not_found choices s (sym e))
+names s None e = λ c p. let q = e ∙ ap chosen p ∙ written_names c in cc
 names s (Some c) e = found choices s (sym e)
 
 -- the choice that was found, as an answer

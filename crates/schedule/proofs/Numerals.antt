@@ -21,19 +21,16 @@ digits_are top n s e = grind (arith, nat_tests)
 digits_read : (top : ℕ) (s : List ℕ) → all_ascii_digits s ≡ true → value_after 0 s ≤ top → digits_after top 0 s ≡ Some (value_after 0 s)
 digits_read top s d h = grind (arith, nat_tests)
 
-none_some : {X : Type 0} {x : X} → None ≡ Some x → ⊥
-none_some e = let z : ◌≡◌ {A = ℕ} 0 1 = cc in omega arith
-
 -- a number field is what is written of its number
 pub number_written : (top n : ℕ) (s : List ℕ) → top < 2 ^ 64 → number_field top s ≡ Some n → (s ≡ decimal n) × (n ≤ top)
-number_written top n [] small e = absurd (none_some e)
+number_written top n [] small e = absurd (cc)
 number_written top n (b ∷ []) small e =
     let d = digits_are top n (b ∷ []) e in
     (sym (decimal-digits_value own (b ∷ []) d.0 (omega arith) (λ _. refl) (omega (arith, d.1))) ∙ ap decimal d.1, d.2)
 number_written top n (b ∷ c ∷ s) small e = by (eqb b 48) refl
   where
     by : (t : Bool) → eqb b 48 ≡ t → ((b ∷ c ∷ s) ≡ decimal n) × (n ≤ top)
-    by true q = absurd (none_some (rw q at e))
+    by true q = absurd (cc (rw q at e))
     by false q =
         let d = digits_are top n (b ∷ c ∷ s) (rw q at e) in
         let first : b ≡ 48 → ⊥ = grind (arith, nat_tests) in (
@@ -80,19 +77,19 @@ no_minus n b s large e =
 
 -- a value field is what is written of its value
 pub value_written : (z : ℤ) (s : List ℕ) → value_field s ≡ Some z → (s ≡ signed_decimal z) × InValue z
-value_written z [] e = absurd (none_some e)
+value_written z [] e = absurd (cc)
 value_written z (b ∷ s) e = by (eqb b 45) refl
   where
     minus : (o : Option ℕ) → number_field lowest_value s ≡ o → negative o ≡ Some z → ((45 ∷ s) ≡ signed_decimal z) × InValue z
-    minus None q f = absurd (none_some f)
-    minus (Some zero) q f = absurd (none_some f)
+    minus None q f = absurd (cc)
+    minus (Some zero) q f = absurd (cc)
     minus (Some (suc n)) q f =
         let w = number_written lowest_value (suc n) s (omega arith) q in
         let g : negsuc n ≡ z = cc in
         subst (λ (y : ℤ). ((45 ∷ s) ≡ signed_decimal y) × InValue y) g (ap (λ (x : List ℕ). 45 ∷ x) w.0, w.1)
 
     plain : (o : Option ℕ) → number_field highest_value (b ∷ s) ≡ o → option_map pos o ≡ Some z → ((b ∷ s) ≡ signed_decimal z) × InValue z
-    plain None q f = absurd (none_some f)
+    plain None q f = absurd (cc)
     plain (Some n) q f =
         let w = number_written highest_value n (b ∷ s) (omega arith) q in
         let g : pos n ≡ z = cc in

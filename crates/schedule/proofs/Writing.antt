@@ -12,9 +12,6 @@ use Rattle.schedule.specs.Written.{with_task, written, InRange}
 use Rattle.schedule.proofs.Cuts.{fields_whole, fields_before}
 use Rattle.schedule.proofs.Numerals.{number_written, number_reads, value_written, value_reads, decimal_clear, signed_clear}
 
-err_ok : {X : Type 0} {w : Misfit} {x : X} → Err w ≡ Ok x → ⊥
-err_ok e = let z : ◌≡◌ {A = ℕ} 0 1 = cc in omega arith
-
 -- each field with a space in front
 abbrev spaced : List (List ℕ) → List ℕ
 spaced [] = []
@@ -27,7 +24,7 @@ spaced_fields (b ∷ s) = by (eqb b space) refl (fields s) (spaced_fields s)
     by : (t : Bool) → eqb b space ≡ t → (fs : List (List ℕ)) → spaced fs ≡ space ∷ s
         → spaced (cond t ([] ∷ fs) (longer b fs)) ≡ space ∷ b ∷ s
     by true q fs h = let e = eqb-true b space q in cc
-    by false q [] h = let z : ◌≡◌ {A = ℕ} 0 1 = cc in absurd (omega arith)
+    by false q [] h = absurd (cc)
     by false q (f ∷ fs) h = let e : f ++ spaced fs ≡ s = cc in ap (λ (x : List ℕ). space ∷ b ∷ x) e
 
 -- a line has just the fields that it was joined from
@@ -37,22 +34,22 @@ same_line s t fs e h = let k = spaced_fields s in cc
 -- what was read by a step of the grammar that went well
 made_is : {X : Type 0} (make : X → Command) (r : Result X Misfit) {c : Command} → made make r ≡ Ok c → (x : X) × (r ≡ Ok x) × (make x ≡ c)
 made_is make (Ok x) e = (x, refl, cc)
-made_is make (Err w) e = absurd (err_ok e)
+made_is make (Err w) e = absurd (cc)
 
 module _ {A X : Type 0} (reads : List ℕ → Option X) (wrong : Misfit) where
   next_is : (fs : List (List ℕ)) (more : X → List (List ℕ) → Result A Misfit) {a : A} → next reads wrong fs more ≡ Ok a
       → (f : List ℕ) × (rest : List (List ℕ)) × (x : X) × (fs ≡ f ∷ rest) × (reads f ≡ Some x) × (more x rest ≡ Ok a)
-  next_is [] more e = absurd (err_ok e)
+  next_is [] more e = absurd (cc)
   next_is (f ∷ fs) more {a} e = by (reads f) refl e
     where
       by : (o : Option X) → reads f ≡ o → given o wrong (λ x. more x fs) ≡ Ok a
           → (g : List ℕ) × (rest : List (List ℕ)) × (x : X) × ((f ∷ fs) ≡ g ∷ rest) × (reads g ≡ Some x) × (more x rest ≡ Ok a)
-      by None q h = absurd (err_ok h)
+      by None q h = absurd (cc)
       by (Some x) q h = (f, fs, x, refl, q, h)
 
 ends_is : {A : Type 0} (n : ℕ) (fs : List (List ℕ)) (x : A) {a : A} → ends n fs x ≡ Ok a → (fs ≡ []) × (x ≡ a)
 ends_is n [] x e = (refl, cc)
-ends_is n (f ∷ fs) x e = absurd (err_ok e)
+ends_is n (f ∷ fs) x e = absurd (cc)
 
 -- the last field
 last_is : {X : Type 0} (reads : List ℕ → Option X) (wrong : Misfit) (n : ℕ) (fs : List (List ℕ)) {x : X} → last reads wrong n fs ≡ Ok x
@@ -141,7 +138,7 @@ lettered_is l fs c e = letter_b (eqb l 66) refl e
 
     letter_a : (t : Bool) → eqb l 65 ≡ t → cond t (made Abort (last_task fs)) (Err no_letter) ≡ Ok c → LineOf l fs c
     letter_a true q h = is 65 q (by_task Abort 65 fs c (λ t r. r) (λ t. refl) h)
-    letter_a false q h = absurd (err_ok h)
+    letter_a false q h = absurd (cc)
 
     letter_c : (t : Bool) → eqb l 67 ≡ t → cond t (made Commit (last_task fs)) (but_c l fs) ≡ Ok c → LineOf l fs c
     letter_c true q h = is 67 q (by_task Commit 67 fs c (λ t r. r) (λ t. refl) h)
@@ -160,12 +157,12 @@ lettered_is l fs c e = letter_b (eqb l 66) refl e
     letter_b false q h = letter_r (eqb l 82) refl h
 
 pub command_is : (s : List ℕ) (fs : List (List ℕ)) (c : Command) → fields s ≡ fs → command_of fs ≡ Ok c → InRange c × (s ≡ written c)
-command_is s [] c q e = absurd (err_ok e)
-command_is s ([] ∷ fs) c q e = absurd (err_ok e)
+command_is s [] c q e = absurd (cc)
+command_is s ([] ∷ fs) c q e = absurd (cc)
 command_is s ((l ∷ []) ∷ fs) c q e =
     let h = lettered_is l fs c e in
     (h.0, same_line s (written c) ((l ∷ []) ∷ fs) q h.1)
-command_is s ((l ∷ b ∷ r) ∷ fs) c q e = absurd (err_ok e)
+command_is s ((l ∷ b ∷ r) ∷ fs) c q e = absurd (cc)
 
 -- the fields of what is written
 index_clear : (n : ℕ) → n ≤ highest_index → Clear space (decimal n)

@@ -1,4 +1,4 @@
-use Rattle.std.proofs.Common.{◌≡◌, find, option_map, Bor, refl, ◌∙◌, rules, tests}
+use Rattle.std.proofs.Common.{◌≡◌, option_map, Bor, ◌∙◌, rules, tests}
 use Rattle.std.proofs.lemmas.Iterator.{YieldsList-from_slice}
 use Rattle.std.proofs.lemmas.Iterator.Search.{find_from_yields_List}
 use Rattle.std.specs.Str.{bytes_eq}
