@@ -1,8 +1,7 @@
 -- A text cut at the first place of a byte, and its fields and lines.
 use Rattle.std.proofs.Common.{◌≡◌, ℕ, suc, ◌<◌, false, eqb, List, [], ◌∷◌, ◌++◌, length, Some, None, Option, refl, ap, ◌∙◌, arith, Bor}
-use Rattle.std.proofs.lemmas.List.{length-append}
 use Rattle.std.proofs.lemmas.Bool.Decides.{nat_tests}
-use Rattle.schedule.specs.Pieces.{space, line_feed, fields, lines, Clear, Cut, fields_left, lines_left, bytes_left}
+use Rattle.schedule.specs.Pieces.{space, line_feed, fields, lines, Clear, Cut, fields_left, lines_left}
 
 apart : (b c : ℕ) → (b ≡ c → ⊥) → eqb b c ≡ false
 apart b c ne = grind (arith, nat_tests)
@@ -40,12 +39,3 @@ pub lines_cut : (s p : List ℕ) (t : Option (Bor (List ℕ))) → 0 < length s 
 lines_cut s [] None l h = absurd (omega (arith, ap length h.0))
 lines_cut s (c ∷ p) None l h = ap lines h.0 ∙ lines_whole c p h.1
 lines_cut s p (Some t) l h = ap lines h.0 ∙ lines_before p t.now h.1
-
--- what is left after a cut is shorter
-pub cut_shorter : (b : ℕ) (s p : List ℕ) (t : Option (Bor (List ℕ))) → 0 < length s → Cut b s p t → bytes_left t < length s
-cut_shorter b s p None l h = l
-cut_shorter b s p (Some t) l h = omega (arith, ap length h.0 ∙ length-append p (b ∷ t.now))
-
-pub lines_none : (s : List ℕ) → length s ≡ 0 → lines s ≡ []
-lines_none [] h = refl
-lines_none (b ∷ s) h = absurd (omega arith)

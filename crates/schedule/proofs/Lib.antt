@@ -6,4 +6,3 @@ pub mod Writing
 pub mod Departing
 pub mod Parsed
 pub mod FirstLine
-pub mod Reports

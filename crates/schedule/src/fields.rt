@@ -1,39 +1,13 @@
 // The fields of a line, one after another.
-ghost use Rattle.std.specs.Prelude.{◌≡◌, ℕ, ◌+◌, ◌<◌, List, [], Option};
-ghost use Rattle.schedule.specs.Numbers.{number_field, value_field, highest_index};
+ghost use Rattle.std.specs.Prelude.{◌≡◌, ℕ, ◌+◌, ◌<◌, List, []};
 ghost use Rattle.schedule.specs.Pieces.{fields, fields_left};
 ghost use Rattle.schedule.specs.Fields.{Next, Takes, Ends};
 ghost use Rattle.schedule.specs.Grammar.{no_end, last};
 
 use crate::command::{Expected, Misfit};
-use crate::number::{index_field, value_field};
+use crate::number::Field;
 use crate::pieces::cut;
 use std::marker::Model;
-
-// What a field holds: a task or a variable, or a value.
-pub(crate) trait Field: Sized {
-    // what a field's text says, if it says one
-    ghost reads: { List ℕ → Option Self };
-
-    fn read(text: &[u8]) -> Option<Self>
-        ensures { result ≡ reads text.now };
-}
-
-impl Field for u8 {
-    ghost reads = { number_field highest_index };
-
-    fn read(text: &[u8]) -> Option<u8> {
-        index_field(text)
-    }
-}
-
-impl Field for i32 {
-    ghost reads = { value_field };
-
-    fn read(text: &[u8]) -> Option<i32> {
-        value_field(text)
-    }
-}
 
 // What is left of a line: nothing, or the text after a space.
 #[derive(Drop)]

@@ -1,13 +1,13 @@
 // Number fields: decimal without leading zeros, of any length, and never wrapped.
-ghost use Rattle.std.specs.Prelude.{◌≡◌, ◌≤◌, IfSome};
+ghost use Rattle.std.specs.Prelude.{◌≡◌, ℕ, ◌≤◌, List, Option, IfSome};
 ghost use Rattle.schedule.specs.Numbers.{digits_after, number_field, value_field, negative};
 ghost use Rattle.schedule.specs.Numbers.{highest_index, lowest_value};
 
-const HIGHEST_INDEX: u32 = 255;
+const HIGHEST_INDEX: u32 = u8::MAX as u32;
 
-const HIGHEST_VALUE: u32 = 2147483647;
+const HIGHEST_VALUE: u32 = i32::MAX as u32;
 // The lowest value is the negative of this.
-const LOWEST_VALUE: u32 = 2147483648;
+const LOWEST_VALUE: u32 = HIGHEST_VALUE + 1;
 
 // The number that the digits write, if all are digits and it is at most `top`.
 fn total(digits: &[u8], top: u32) -> Option<u32>
@@ -38,13 +38,6 @@ fn number_field(text: &[u8], top: u32) -> Option<u32>
     }
 }
 
-// A task or a variable.
-pub(crate) fn index_field(text: &[u8]) -> Option<u8>
-    ensures { result ≡ number_field highest_index text.now }
-{
-    number_field(text, HIGHEST_INDEX).map(|n| n as u8)
-}
-
 // A value after its minus.
 fn negative_field(digits: &[u8]) -> Option<i32>
     ensures { result ≡ negative (number_field lowest_value digits.now) }
@@ -54,12 +47,32 @@ fn negative_field(digits: &[u8]) -> Option<i32>
         .map(|n| (-i64::from(n)) as i32)
 }
 
+// What a field holds.
+pub(crate) trait Field: Sized {
+    // what a field's text says, if it says one
+    ghost reads: { List ℕ → Option Self };
+
+    fn read(text: &[u8]) -> Option<Self>
+        ensures { result ≡ reads text.now };
+}
+
+// A task or a variable.
+impl Field for u8 {
+    ghost reads = { number_field highest_index };
+
+    fn read(text: &[u8]) -> Option<u8> {
+        number_field(text, HIGHEST_INDEX).map(|n| n as u8)
+    }
+}
+
 // A signed value.
-pub(crate) fn value_field(text: &[u8]) -> Option<i32>
-    ensures { result ≡ value_field text.now }
-{
-    match text {
-        [b'-', digits @ ..] => negative_field(digits),
-        _ => number_field(text, HIGHEST_VALUE).map(|n| n as i32),
+impl Field for i32 {
+    ghost reads = { value_field };
+
+    fn read(text: &[u8]) -> Option<i32> {
+        match text {
+            [b'-', digits @ ..] => negative_field(digits),
+            _ => number_field(text, HIGHEST_VALUE).map(|n| n as i32),
+        }
     }
 }
