@@ -116,6 +116,14 @@ module _ {X : Type 0} {reads : List ℕ → Option X} {writes : X → List ℕ} 
     agrees : (m : ℕ) (gs : List (List ℕ)) → Agree m rest gs → Agree (suc m) fs (writes x ∷ gs)
     beyond : (m : ℕ) (y : X) (gs : List (List ℕ)) → Agree (suc m) fs (writes y ∷ gs) → Agree m rest gs
 
+  -- where reading goes wrong: at the next field, or after it
+  abbrev NextErrs : {A : Type 0} → List (List ℕ) → (X → List (List ℕ) → Result A Misfit) → Misfit → Type 0
+  NextErrs fs more w = ((w ≡ wrong) × NoneNext fs) ⊎ ((x : X) × (rest : List (List ℕ)) × IsNext fs x rest × (more x rest ≡ Err w))
+
+  -- the last field is wrong, or another follows it
+  abbrev LastErrs : ℕ → List (List ℕ) → Misfit → Type 0
+  LastErrs n fs w = ((w ≡ wrong) × NoneNext fs) ⊎ ((x : X) × (rest : List (List ℕ)) × IsNext fs x rest × (w ≡ no_end n) × (Agree 1 rest [] → ⊥))
+
   unread : (f : List ℕ) (rest : List (List ℕ)) → reads f ≡ None → NoneNext (f ∷ rest)
   unread f rest e x h gs a = let b = form.back x h in let q = ap reads a.0 in cc
 
@@ -124,28 +132,23 @@ module _ {X : Type 0} {reads : List ℕ → Option X} {writes : X → List ℕ} 
       let o = form.only f x e in
       record { fits = o.1; agrees = λ m gs a. (o.0, a); beyond = λ m y gs a. a.1 }
 
-  -- where reading goes wrong: at the next field, or after it
   next_errs : {A : Type 0} (fs : List (List ℕ)) (more : X → List (List ℕ) → Result A Misfit) (w : Misfit) → next reads wrong fs more ≡ Err w
-      → ((w ≡ wrong) × NoneNext fs) ⊎ ((x : X) × (rest : List (List ℕ)) × IsNext fs x rest × (more x rest ≡ Err w))
+      → NextErrs fs more w
   next_errs [] more w e = inl (cc, λ x h gs a. a)
   next_errs {A} (f ∷ fs) more w e = by (reads f) refl e
     where
-      by : (o : Option X) → reads f ≡ o → given o wrong (λ x. more x fs) ≡ Err w
-          → ((w ≡ wrong) × NoneNext (f ∷ fs)) ⊎ ((x : X) × (rest : List (List ℕ)) × IsNext (f ∷ fs) x rest × (more x rest ≡ Err w))
+      by : (o : Option X) → reads f ≡ o → given o wrong (λ x. more x fs) ≡ Err w → NextErrs (f ∷ fs) more w
       by None q h = inl (cc, unread f fs q)
       by (Some x) q h = inr (x, fs, is_next f fs x q, h)
 
-  -- the last field is wrong, or another follows it
-  last_errs : (n : ℕ) (fs : List (List ℕ)) (w : Misfit) → last reads wrong n fs ≡ Err w
-      → ((w ≡ wrong) × NoneNext fs) ⊎ ((x : X) × (rest : List (List ℕ)) × IsNext fs x rest × (w ≡ no_end n) × (Agree 1 rest [] → ⊥))
+  last_errs : (n : ℕ) (fs : List (List ℕ)) (w : Misfit) → last reads wrong n fs ≡ Err w → LastErrs n fs w
   last_errs n fs w e = by (next_errs fs (λ x rest. ends n rest x) w e)
     where
       more : (x : X) (rest : List (List ℕ)) → ends n rest x ≡ Err w → (w ≡ no_end n) × (Agree 1 rest [] → ⊥)
       more x [] h = absurd (cc)
       more x (g ∷ gs) h = (cc, λ a. a)
 
-      by : ((w ≡ wrong) × NoneNext fs) ⊎ ((x : X) × (rest : List (List ℕ)) × IsNext fs x rest × (ends n rest x ≡ Err w))
-          → ((w ≡ wrong) × NoneNext fs) ⊎ ((x : X) × (rest : List (List ℕ)) × IsNext fs x rest × (w ≡ no_end n) × (Agree 1 rest [] → ⊥))
+      by : NextErrs fs (λ x rest. ends n rest x) w → LastErrs n fs w
       by (inl h) = inl h
       by (inr h) = let k = more h.0 h.1 h.3 in inr (h.0, h.1, h.2, k.0, k.1)
 
@@ -156,6 +159,10 @@ made_errs make (Err v) w e = cc
 -- where the fields after a letter go wrong
 abbrev Errs : ℕ → List (List ℕ) → Misfit → Type 0
 Errs l fs w = (m : ℕ) × (w.field ≡ suc (suc m)) × Tail l fs m
+
+-- or where the letter is wrong
+abbrev LetterErrs : ℕ → List (List ℕ) → Misfit → Type 0
+LetterErrs l fs w = Errs l fs w ⊎ ((w ≡ no_letter) × ((c : Command) → l ≡ letter c → ⊥))
 
 -- a letter with a task
 task_errs : (make : ℕ → Command) (l : ℕ) (fs : List (List ℕ)) (w : Misfit)
@@ -172,8 +179,7 @@ task_errs make l fs w has range form only small e = by (last_errs index_form no_
         → (c : Command) → letter c ≡ l → InRange c → Agree 2 fs (numbers c) → ⊥
     beyond rest b h = only (λ c. InRange c → Agree 2 fs (numbers c) → ⊥) (λ t r a. h (b 1 t [] (subst (Agree 2 fs) (form t) a)))
 
-    by : ((w ≡ no_task) × NoneNext index_form no_task fs)
-        ⊎ ((t : ℕ) × (rest : List (List ℕ)) × IsNext index_form no_task fs t rest × (w ≡ no_end 3) × (Agree 1 rest [] → ⊥)) → Errs l fs w
+    by : LastErrs index_form no_task 3 fs w → Errs l fs w
     by (inl h) = (0, ap (λ (v : Misfit). v.field) h.0, record { so_far = (make 0, has 0, range 0 (omega arith), tt); no_further = none h.1 })
     by (inr h) = (
       1,
@@ -187,9 +193,7 @@ task_errs make l fs w has range form only small e = by (last_errs index_form no_
 read_errs : (fs : List (List ℕ)) (w : Misfit) → read_of fs ≡ Err w → Errs 82 fs w
 read_errs fs w e = by (next_errs index_form no_task fs (λ t more. made (Read t) (last_variable more)) w e)
   where
-    after : (t : ℕ) (more : List (List ℕ)) → IsNext index_form no_task fs t more
-        → ((w ≡ no_variable) × NoneNext index_form no_variable more)
-        ⊎ ((v : ℕ) × (rest : List (List ℕ)) × IsNext index_form no_variable more v rest × (w ≡ no_end 4) × (Agree 1 rest [] → ⊥)) → Errs 82 fs w
+    after : (t : ℕ) (more : List (List ℕ)) → IsNext index_form no_task fs t more → LastErrs index_form no_variable 4 more w → Errs 82 fs w
     after t more n (inl h) = (
       1,
       ap (λ (v : Misfit). v.field) h.0,
@@ -208,8 +212,7 @@ read_errs fs w e = by (next_errs index_form no_task fs (λ t more. made (Read t)
       },
     )
 
-    by : ((w ≡ no_task) × NoneNext index_form no_task fs)
-        ⊎ ((t : ℕ) × (more : List (List ℕ)) × IsNext index_form no_task fs t more × (made (Read t) (last_variable more) ≡ Err w)) → Errs 82 fs w
+    by : NextErrs index_form no_task fs (λ t more. made (Read t) (last_variable more)) w → Errs 82 fs w
     by (inl h) = (
       0,
       ap (λ (v : Misfit). v.field) h.0,
@@ -224,8 +227,7 @@ write_errs : (fs : List (List ℕ)) (w : Misfit) → write_of fs ≡ Err w → E
 write_errs fs w e = by (next_errs index_form no_task fs (λ t more. next (number_field highest_index) no_variable more (λ v most. made (Write t v) (last_value most))) w e)
   where
     third : (t v : ℕ) (more most : List (List ℕ)) → IsNext index_form no_task fs t more → IsNext index_form no_variable more v most
-        → ((w ≡ no_value) × NoneNext value_form no_value most)
-        ⊎ ((n : ℤ) × (rest : List (List ℕ)) × IsNext value_form no_value most n rest × (w ≡ no_end 5) × (Agree 1 rest [] → ⊥)) → Errs 87 fs w
+        → LastErrs value_form no_value 5 most w → Errs 87 fs w
     third t v more most a b (inl h) = (
       2,
       ap (λ (x : Misfit). x.field) h.0,
@@ -246,8 +248,7 @@ write_errs fs w e = by (next_errs index_form no_task fs (λ t more. next (number
     )
 
     second : (t : ℕ) (more : List (List ℕ)) → IsNext index_form no_task fs t more
-        → ((w ≡ no_variable) × NoneNext index_form no_variable more)
-        ⊎ ((v : ℕ) × (most : List (List ℕ)) × IsNext index_form no_variable more v most × (made (Write t v) (last_value most) ≡ Err w)) → Errs 87 fs w
+        → NextErrs index_form no_variable more (λ v most. made (Write t v) (last_value most)) w → Errs 87 fs w
     second t more a (inl h) = (
       1,
       ap (λ (x : Misfit). x.field) h.0,
@@ -260,9 +261,7 @@ write_errs fs w e = by (next_errs index_form no_task fs (λ t more. next (number
     second t more a (inr h) =
         third t h.0 more h.1 a h.2 (last_errs value_form no_value 5 h.1 w (made_errs (Write t h.0) (last_value h.1) w h.3))
 
-    by : ((w ≡ no_task) × NoneNext index_form no_task fs)
-        ⊎ ((t : ℕ) × (more : List (List ℕ)) × IsNext index_form no_task fs t more
-        × (next (number_field highest_index) no_variable more (λ v most. made (Write t v) (last_value most)) ≡ Err w)) → Errs 87 fs w
+    by : NextErrs index_form no_task fs (λ t more. next (number_field highest_index) no_variable more (λ v most. made (Write t v) (last_value most))) w → Errs 87 fs w
     by (inl h) = (
       0,
       ap (λ (x : Misfit). x.field) h.0,
@@ -285,14 +284,14 @@ apart : (l k : ℕ) → eqb l k ≡ false → l ≡ k → ⊥
 apart l k q e = let t = eq-eqb l k e in let z : true ≡ false = sym t ∙ q in grind arith
 
 -- a letter and its fields that are refused: in a field after the letter, or for the letter
-lettered_errs : (l : ℕ) (fs : List (List ℕ)) (w : Misfit) → lettered l fs ≡ Err w → Errs l fs w ⊎ ((w ≡ no_letter) × ((c : Command) → l ≡ letter c → ⊥))
+lettered_errs : (l : ℕ) (fs : List (List ℕ)) (w : Misfit) → lettered l fs ≡ Err w → LetterErrs l fs w
 lettered_errs l fs w e = letter_b (eqb l 66) refl e
   where
-    is : (k : ℕ) → eqb l k ≡ true → Errs k fs w → Errs l fs w ⊎ ((w ≡ no_letter) × ((c : Command) → l ≡ letter c → ⊥))
+    is : (k : ℕ) → eqb l k ≡ true → Errs k fs w → LetterErrs l fs w
     is k q h = inl (subst (λ (x : ℕ). Errs x fs w) (sym (eqb-true l k q)) h)
 
     letter_a : eqb l 66 ≡ false → eqb l 82 ≡ false → eqb l 87 ≡ false → eqb l 67 ≡ false → (t : Bool) → eqb l 65 ≡ t
-        → cond t (made Abort (last_task fs)) (Err no_letter) ≡ Err w → Errs l fs w ⊎ ((w ≡ no_letter) × ((c : Command) → l ≡ letter c → ⊥))
+        → cond t (made Abort (last_task fs)) (Err no_letter) ≡ Err w → LetterErrs l fs w
     letter_a b r x c true q h = is 65 q (task_errs Abort 65 fs w (λ t. refl) (λ t z. z) (λ t. refl) abort_only (λ t z. z) h)
     letter_a b r x c false q h = inr (cc, none)
       where
@@ -304,21 +303,21 @@ lettered_errs l fs w e = letter_b (eqb l 66) refl e
         none (Abort t) p = apart l 65 q p
 
     letter_c : eqb l 66 ≡ false → eqb l 82 ≡ false → eqb l 87 ≡ false → (t : Bool) → eqb l 67 ≡ t
-        → cond t (made Commit (last_task fs)) (but_c l fs) ≡ Err w → Errs l fs w ⊎ ((w ≡ no_letter) × ((c : Command) → l ≡ letter c → ⊥))
+        → cond t (made Commit (last_task fs)) (but_c l fs) ≡ Err w → LetterErrs l fs w
     letter_c b r x true q h = is 67 q (task_errs Commit 67 fs w (λ t. refl) (λ t z. z) (λ t. refl) commit_only (λ t z. z) h)
     letter_c b r x false q h = letter_a b r x q (eqb l 65) refl h
 
     letter_w : eqb l 66 ≡ false → eqb l 82 ≡ false → (t : Bool) → eqb l 87 ≡ t
-        → cond t (write_of fs) (but_w l fs) ≡ Err w → Errs l fs w ⊎ ((w ≡ no_letter) × ((c : Command) → l ≡ letter c → ⊥))
+        → cond t (write_of fs) (but_w l fs) ≡ Err w → LetterErrs l fs w
     letter_w b r true q h = is 87 q (write_errs fs w h)
     letter_w b r false q h = letter_c b r q (eqb l 67) refl h
 
     letter_r : eqb l 66 ≡ false → (t : Bool) → eqb l 82 ≡ t
-        → cond t (read_of fs) (but_r l fs) ≡ Err w → Errs l fs w ⊎ ((w ≡ no_letter) × ((c : Command) → l ≡ letter c → ⊥))
+        → cond t (read_of fs) (but_r l fs) ≡ Err w → LetterErrs l fs w
     letter_r b true q h = is 82 q (read_errs fs w h)
     letter_r b false q h = letter_w b q (eqb l 87) refl h
 
-    letter_b : (t : Bool) → eqb l 66 ≡ t → cond t (made Begin (last_task fs)) (but_b l fs) ≡ Err w → Errs l fs w ⊎ ((w ≡ no_letter) × ((c : Command) → l ≡ letter c → ⊥))
+    letter_b : (t : Bool) → eqb l 66 ≡ t → cond t (made Begin (last_task fs)) (but_b l fs) ≡ Err w → LetterErrs l fs w
     letter_b true q h = is 66 q (task_errs Begin 66 fs w (λ t. refl) (λ t z. z) (λ t. refl) begin_only (λ t z. z) h)
     letter_b false q h = letter_r q (eqb l 82) refl h
 
@@ -328,7 +327,7 @@ departs_by s ([] ∷ fs) w q e =
     subst (Departs s) (cc) (letter_departs s ([] ∷ fs) q (λ c a. let p = a.0 in cc))
 departs_by s ((l ∷ []) ∷ fs) w q e = by (lettered_errs l fs w e)
   where
-    by : Errs l fs w ⊎ ((w ≡ no_letter) × ((c : Command) → l ≡ letter c → ⊥)) → Departs s w
+    by : LetterErrs l fs w → Departs s w
     by (inl h) = tail_departs s l fs h.0 w q h.1 h.2
     by (inr h) = subst (Departs s) (sym h.0) (letter_departs s ((l ∷ []) ∷ fs) q (λ c a. let p = a.0 in h.1 c (cc)))
 departs_by s ((l ∷ b ∷ r) ∷ fs) w q e =

@@ -31,7 +31,7 @@ const CHOICES: [Choice; 6] = [
 ];
 
 impl Choice {
-    // The first line that names it. A method and no conversion: what it gives is looked up and compared, and `name` says so.
+    // The first line that names it: a method and no conversion, since the bytes are only looked up and compared.
     pub fn name(self) -> &'static [u8]
         ensures { result.now ≡ first_line self }
     {

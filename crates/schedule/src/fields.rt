@@ -53,7 +53,7 @@ impl<'a> Fields<'a> {
         T::read(field).ok_or(wrong)
     }
 
-    // Nothing may follow; `field` is the number of the next field.
+    // Nothing may follow; `field` is the number of the next field. A match, since no method of `Option` makes a value the error.
     fn end(mut self, field: u8) -> Result<(), Misfit>
         ensures { Ends (no_end field) self.entry result }
     {
