@@ -1,21 +1,21 @@
 -- What a policy's answer to a fit call tells: whether the facts allow it, and which move was made.
-use Rattle.std.proofs.Common.{◌≡◌, ℕ, ◌<◌, Bool, true, false, Ok, Err, Result, sym, refl, ap, ◌∙◌, subst, arith}
+use Rattle.std.proofs.Common.{◌≡◌, ℕ, ◌<◌, Bool, true, false, Ok, Err, Result, sym, refl, ap, ◌∙◌, subst}
+use Rattle.std.proofs.lemmas.Bool.{lt-ltb}
 use Rattle.policy.specs.Limits.{tasks, variables}
 use Rattle.policy.specs.Facts.{Facts}
 use Rattle.policy.specs.Moves.{Move}
 use Rattle.policy.specs.Answers.{fit_task, fit_access, fit_begin, answer, told, Moved}
 use Rattle.policy.specs.declared.PolicyFault.{PolicyFault}
 use Rattle.policy.specs.declared.Granted.{Granted}
-use Rattle.history.proofs.Building.{below}
 
 pub task_fit : (f : Facts) (t : ℕ) → t < tasks → f.active t ≡ true → fit_task f t ≡ true
-task_fit f t h e = rw (below t tasks h, e)
+task_fit f t h e = rw (lt-ltb t tasks h, e)
 
 pub begin_fit : (f : Facts) (t : ℕ) → t < tasks → f.active t ≡ false → fit_begin f t ≡ true
-begin_fit f t h e = rw (below t tasks h, e)
+begin_fit f t h e = rw (lt-ltb t tasks h, e)
 
 pub access_fit : (f : Facts) (t v : ℕ) → t < tasks → v < variables → f.active t ≡ true → fit_access f t v ≡ true
-access_fit f t v h k e = rw (below t tasks h, below v variables k, e)
+access_fit f t v h k e = rw (lt-ltb t tasks h, lt-ltb v variables k, e)
 
 -- a fit question is told the fact
 pub asked_fact : (r : Result Bool PolicyFault) (fit fact : Bool) → r ≡ told fit fact → fit ≡ true → r ≡ Ok fact
@@ -36,14 +36,14 @@ module _ {P : Type 0} (after : P → Move → P → Type 0) (done barred : Move)
     where
       go : (b : Bool) → Ok x ≡ answer true b why → b ≡ true
       go true h = refl
-      go false h = absurd (let z : ◌≡◌ {A = ℕ} 0 1 = cc in omega arith)
+      go false h = absurd (cc)
 
   -- refused: the facts didn't, the reason is the call's own, and the refusal was made
   pub asked_refused : (x : PolicyFault) → r ≡ Err x → (may ≡ false) × (why ≡ x) × Moved after done barred p q (Err why)
   asked_refused x e = (d.0, d.1, moved_by (Err why) (e ∙ ap (λ (y : PolicyFault). Err y) (sym d.1)))
     where
       go : (b : Bool) → Err x ≡ answer true b why → (b ≡ false) × (why ≡ x)
-      go true h = absurd (let z : ◌≡◌ {A = ℕ} 0 1 = cc in omega arith)
+      go true h = absurd (cc)
       go false h = (refl, cc)
 
       d : (may ≡ false) × (why ≡ x)

@@ -1,12 +1,13 @@
 -- A granted begin, and a call that adds nothing.
 use Rattle.std.proofs.Common.{◌≡◌, ℕ, true, ◌≢◌, ◌⊎◌, List, sym, refl, ap, ◌∙◌, subst, inl, inr, arith}
+use Rattle.std.proofs.lemmas.Bool.{both_ways}
 use mathlib.Core.Option.{some}
 use Rattle.policy.specs.Facts.{Facts, Touched as Taken}
 use Rattle.policy.specs.Moves.{Unchanged}
 use Rattle.history.specs.Transactions.{Transaction, Ledger, calls, note, nothing, opens, begun}
 use Rattle.history.specs.Alone.{nothing_pending, pend}
 use Rattle.history.specs.Law.{just, HadTouched, Rival}
-use Rattle.history.proofs.Logic.{not_both, no_some, at_same, at_other, marked_some}
+use Rattle.history.proofs.Logic.{no_some, at_same, at_other, marked_some}
 use Rattle.history.proofs.Accesses.{answered_touches, pend_touches}
 use Rattle.history.proofs.Views.{View}
 use Rattle.history.proofs.Effects.{Idles, Begins}
@@ -80,7 +81,7 @@ module _ (t : ℕ) (a b : View) (L : Ledger) (order : List Transaction) (inv : I
     lasted = omega arith;
     within = tt;
     pending = λ v. rw (step.rule.writes v) refl;
-    reads = λ v e. absurd (not_both e (step.rule.reads v));
+    reads = λ v e. absurd (both_ways _ (step.rule.reads v) e);
     answers = λ v x r. elim r [ ];
     held = record { moment = calls L; values = b.shared; stood = just; since = omega arith; until = omega arith; exact = tt };
     up_to_date = λ l. record {
@@ -88,13 +89,13 @@ module _ (t : ℕ) (a b : View) (L : Ledger) (order : List Transaction) (inv : I
       no_read = λ v e. rival_n v (step.rule.no_read v e);
       no_write = λ v e. rival_n v (step.rule.no_write v e);
     };
-    behind = λ l. absurd (not_both l step.rule.behind);
+    behind = λ l. absurd (both_ways _ step.rule.behind l);
   }
 
   pub begin_keeps : Invariant b L' order
   begin_keeps = same_order inv grows refl step.quiet.shared refl
       (all_active b L' order t inv step.rule.only others each (λ l. record { transaction = N; is = at_same L.current t (some N); standing = standing }))
-      (all_idle b L' order t inv step.rule.only others (λ l. absurd (not_both step.rule.active l)))
+      (all_idle b L' order t inv step.rule.only others (λ l. absurd (both_ways _ l step.rule.active)))
       (λ U m. settled_grows grows (unended_all inv) (inv.settled U m))
 
 module _ (a b : View) (L : Ledger) (order : List Transaction) (inv : Invariant a L order) (step : Idles a b) where

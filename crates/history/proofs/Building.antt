@@ -1,5 +1,5 @@
 -- Steps built from what a table knows of its call.
-use Rattle.std.proofs.Common.{◌≡◌, ℕ, suc, ◌+◌, ◌<◌, ◌≤◌, Bool, true, false, T, ltb, ◌≢◌, ◌⊎◌, List, [], ◌∷◌, ◌++◌, map, length, ℤ, sym, refl, ap, ◌∙◌, subst, inl, inr, add-zero, arith, ltb→lt, lt→ltb}
+use Rattle.std.proofs.Common.{◌≡◌, ℕ, suc, ◌+◌, Bool, true, false, ltb, ◌≢◌, List, [], ◌∷◌, ◌++◌, map, length, ℤ, sym, refl, ap, ◌∙◌, subst, add-zero, arith}
 use mathlib.Core.Option.{Option, none, some}
 use Rattle.policy.specs.Limits.{variables}
 use Rattle.policy.specs.Facts.{Facts, may_read, may_commit}
@@ -8,20 +8,9 @@ use Rattle.policy.specs.Moves.{read as reads_variable}
 use Rattle.history.specs.Calls.{Call, begin, read, write, collect, snapshot, commit, abort, task, listed, Wrong, no_variable, Untimely, Barred, read_barred, sent_wrongly, at_wrong_time, by_policy, Answer, refused}
 use Rattle.history.specs.Answers.{Stage, first_wrong, first_barred, wrong, untimely, barred, granted, checked}
 use Rattle.history.specs.Steps.{State, Chain, ReadsFor, none_made, Step, answer, sees, first_moves, granted_reads, last_moves, stage_after, pending_after, shared_after}
-use Rattle.history.proofs.Logic.{truth, is_true, no_some}
+use Rattle.history.proofs.Logic.{no_some}
 use Rattle.history.proofs.GrantedReads.{ReadAll}
 use Rattle.history.proofs.Outcomes.{Unasked, wrong_unasked, untimely_unasked}
-
--- the order of two numbers, as a test
-pub below : (m n : ℕ) → m < n → ltb m n ≡ true
-below m n h = is_true (ltb m n) (lt→ltb m n h)
-
-pub not_below : (m n : ℕ) → n ≤ m → ltb m n ≡ false
-not_below m n h = go (truth (ltb m n))
-  where
-    go : (ltb m n ≡ true) ⊎ (ltb m n ≡ false) → ltb m n ≡ false
-    go (inl e) = absurd (let k : m < n = ltb→lt m n (subst T (sym e) tt) in omega arith)
-    go (inr e) = e
 
 -- a chain of moves, and one more
 pub chain_more : {P : Type 0} (after : P → Move → P → Type 0) (ms : List Move) (m : Move) (p q r : P) → Chain after ms p q → after q m r

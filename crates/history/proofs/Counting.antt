@@ -1,15 +1,15 @@
 -- The bounds of the number of reads that a collect makes.
 use Rattle.std.proofs.Common.{◌≡◌, ℕ, suc, ◌≤◌, Bool, true, false, cond, ◌||◌, eqb, ◌⊎◌, List, [], ◌∷◌, ◌++◌, length, sym, refl, subst, inl, inr, arith, length-append}
+use Rattle.std.proofs.lemmas.Bool.{or_cases, eq-eqb, eqb-true, both_ways}
 use mathlib.Core.List.{Memᴰ}
 use Rattle.history.specs.Steps.{ReadsFor, none_made, made, left_out}
 use Rattle.history.specs.Counts.{stands_in, different, CountBounds}
-use Rattle.history.proofs.Logic.{not_both, either_true, eqb_same, eqb_refl_true}
 use Rattle.history.proofs.GrantedReads.{made_only, made_short}
 
 -- what is in a list is found in it
 found : (v : ℕ) (vs : List ℕ) → Memᴰ v vs → stands_in v vs ≡ true
 found v [] m = elim m [ ]
-found v (w ∷ vs) (Memᴰ.head e) = subst (λ (x : ℕ). eqb v x || stands_in v vs ≡ true) e (rw (eqb_refl_true v))
+found v (w ∷ vs) (Memᴰ.head e) = subst (λ (x : ℕ). eqb v x || stands_in v vs ≡ true) e (rw (eq-eqb v v refl))
 found v (w ∷ vs) (Memᴰ.tail m) = go (eqb v w) (found v vs m)
   where
     go : (b : Bool) → stands_in v vs ≡ true → b || stands_in v vs ≡ true
@@ -17,7 +17,7 @@ found v (w ∷ vs) (Memᴰ.tail m) = go (eqb v w) (found v vs m)
     go false h = h
 
 stands_still : (w : ℕ) (vs : List ℕ) (v : ℕ) → stands_in w vs ≡ true → stands_in w (vs ++ (v ∷ [])) ≡ true
-stands_still w [] v h = absurd (not_both h refl)
+stands_still w [] v h = absurd (both_ways _ refl h)
 stands_still w (u ∷ vs) v h = go (eqb w u) (stands_still w vs v) h
   where
     go : (b : Bool) → (stands_in w vs ≡ true → stands_in w (vs ++ (v ∷ [])) ≡ true) → b || stands_in w vs ≡ true → b || stands_in w (vs ++ (v ∷ [])) ≡ true
@@ -25,7 +25,7 @@ stands_still w (u ∷ vs) v h = go (eqb w u) (stands_still w vs v) h
     go false more h = more h
 
 stands_last : (vs : List ℕ) (v : ℕ) → stands_in v (vs ++ (v ∷ [])) ≡ true
-stands_last [] v = rw (eqb_refl_true v)
+stands_last [] v = rw (eq-eqb v v refl)
 stands_last (u ∷ vs) v = go (eqb v u) (stands_last vs v)
   where
     go : (b : Bool) → stands_in v (vs ++ (v ∷ [])) ≡ true → b || stands_in v (vs ++ (v ∷ [])) ≡ true
@@ -40,24 +40,24 @@ one_more (w ∷ vs) v = go (one_more vs v) (stands_in w vs) (stands_in w (vs ++ 
     go : different (vs ++ (v ∷ [])) ≤ suc (different vs) → (x y : Bool) → stands_in w vs ≡ x → stands_in w (vs ++ (v ∷ [])) ≡ y
         → cond y (different (vs ++ (v ∷ []))) (suc (different (vs ++ (v ∷ [])))) ≤ suc (cond x (different vs) (suc (different vs)))
     go h true true p q = h
-    go h true false p q = absurd (not_both (stands_still w vs v p) q)
+    go h true false p q = absurd (both_ways _ q (stands_still w vs v p))
     go h false true p q = omega arith
     go h false false p q = omega arith
 
 no_more : (vs : List ℕ) (v : ℕ) → stands_in v vs ≡ true → different (vs ++ (v ∷ [])) ≤ different vs
-no_more [] v h = absurd (not_both h refl)
-no_more (w ∷ vs) v h = go (no_more vs v) (either_true (eqb v w) (stands_in v vs) h) (stands_in w vs) (stands_in w (vs ++ (v ∷ []))) refl refl
+no_more [] v h = absurd (both_ways _ refl h)
+no_more (w ∷ vs) v h = go (no_more vs v) (or_cases (eqb v w) (stands_in v vs) h) (stands_in w vs) (stands_in w (vs ++ (v ∷ []))) refl refl
   where
     go : (stands_in v vs ≡ true → different (vs ++ (v ∷ [])) ≤ different vs) → (eqb v w ≡ true) ⊎ (stands_in v vs ≡ true)
         → (x y : Bool) → stands_in w vs ≡ x → stands_in w (vs ++ (v ∷ [])) ≡ y
         → cond y (different (vs ++ (v ∷ []))) (suc (different (vs ++ (v ∷ [])))) ≤ cond x (different vs) (suc (different vs))
-    go more k true false p q = absurd (not_both (stands_still w vs v p) q)
+    go more k true false p q = absurd (both_ways _ q (stands_still w vs v p))
     go more (inr k) true true p q = more k
     go more (inr k) false true p q = let m = more k in omega arith
     go more (inr k) false false p q = let m = more k in omega arith
-    go more (inl k) true true p q = more (subst (λ (x : ℕ). stands_in x vs ≡ true) (sym (eqb_same v w k)) p)
+    go more (inl k) true true p q = more (subst (λ (x : ℕ). stands_in x vs ≡ true) (sym (eqb-true v w k)) p)
     go more (inl k) false true p q = one_more vs v
-    go more (inl k) false false p q = absurd (not_both (subst (λ (x : ℕ). stands_in x (vs ++ (v ∷ [])) ≡ true) (eqb_same v w k) (stands_last vs v)) q)
+    go more (inl k) false false p q = absurd (both_ways _ q (subst (λ (x : ℕ). stands_in x (vs ++ (v ∷ [])) ≡ true) (eqb-true v w k) (stands_last vs v)))
 
 enough : {vs rs : List ℕ} → ReadsFor vs rs → different vs ≤ length rs
 enough none_made = omega arith

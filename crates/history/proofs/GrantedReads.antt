@@ -1,5 +1,6 @@
 -- Several granted reads of one task, one after another, as one change of the facts.
 use Rattle.std.proofs.Common.{◌≡◌, ℕ, ◌≤◌, Bool, true, false, not, ◌≢◌, ◌⊎◌, List, [], ◌∷◌, ◌++◌, map, length, sym, refl, ap, ◌∙◌, subst, inl, inr, arith, length-append}
+use Rattle.std.proofs.lemmas.Bool.{cases_Bool, or_cases, not-true}
 use native.Mathlib.Decide.{ℕ_discrete}
 use mathlib.Core.List.Memᴰ
 use mathlib.Core.List.{Memᴰ}
@@ -7,7 +8,6 @@ use Rattle.policy.specs.Facts.{Facts}
 use Rattle.policy.specs.Moves.{Move, Only, Others, Beside, HasRead, Keeps}
 use Rattle.policy.specs.Moves.{read as reads_variable}
 use Rattle.history.specs.Steps.{ReadsFor, none_made, made, left_out, Chain}
-use Rattle.history.proofs.Logic.{truth, either_true, not_true}
 
 -- another active task u, after granted accesses to vs
 pub record BesideAll (vs : List ℕ) (f g : Facts) (u : ℕ) : Type 0 where
@@ -95,9 +95,9 @@ read_one {t} {v} {f} {g} p = record {
   granted = λ w m. subst (λ (x : ℕ). (f.writes t x ≡ true) ⊎ (f.no_read t x ≡ false)) (sym (the_one w m)) may;
   active = p.active;
   behind = p.behind;
-  reads_kept = λ w e. kept w e (ℕ_discrete w v) (truth (f.writes t v));
+  reads_kept = λ w e. kept w e (ℕ_discrete w v) (cases_Bool (f.writes t v));
   reads_new = λ w m e. subst (λ (x : ℕ). g.reads t x ≡ true) (sym (the_one w m)) (p.shared (subst (λ (x : ℕ). f.writes t x ≡ false) (the_one w m) e));
-  reads_only = λ w e. news w e (ℕ_discrete w v) (truth (f.writes t v));
+  reads_only = λ w e. news w e (ℕ_discrete w v) (cases_Bool (f.writes t v));
   writes = p.writes;
   no_read = p.bars.no_read;
   no_write = p.bars.no_write;
@@ -110,7 +110,7 @@ read_one {t} {v} {f} {g} p = record {
     the_one w (Memᴰ.tail m) = elim m [ ]
 
     may : (f.writes t v ≡ true) ⊎ (f.no_read t v ≡ false)
-    may = elim (either_true (f.writes t v) (not (f.no_read t v)) p.granted) [ inl e ↦ inl e | inr e ↦ inr (not_true (f.no_read t v) e) ]
+    may = elim (or_cases (f.writes t v) (not (f.no_read t v)) p.granted) [ inl e ↦ inl e | inr e ↦ inr (not-true (f.no_read t v) e) ]
 
     kept : (w : ℕ) → f.reads t w ≡ true → Dec (w ≡ v) → (f.writes t v ≡ true) ⊎ (f.writes t v ≡ false) → g.reads t w ≡ true
     kept w e (no q) d = p.reads w q ∙ e

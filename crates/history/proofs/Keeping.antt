@@ -1,5 +1,6 @@
 -- Every call keeps the invariant: each kind of call, by the check that decided its answer.
 use Rattle.std.proofs.Common.{◌≡◌, ℕ, Bool, true, false, List, [], ◌∷◌, map, take, ℤ, sym, refl, ap, ◌∙◌, subst}
+use Rattle.std.proofs.lemmas.Bool.{not-false, both_ways}
 use mathlib.Core.Option.{none, some}
 use Rattle.policy.specs.Facts.{Facts, may_read, may_write, may_commit, Proper}
 use Rattle.policy.specs.Moves.{Move, Begun, HasWritten, Ended, Refused, Committed, Keeps, read_refused, write_refused, commit_refused}
@@ -9,7 +10,7 @@ use Rattle.history.specs.Answers.{Stage, idle, active, broken, granted, must_not
 use Rattle.history.specs.Steps.{State, Chain, ReadsFor, Step, sees, abort_moves}
 use Rattle.history.specs.Transactions.{Addition, adds, ends, Transaction, Ledger, aborted, policy_refused, calls, gots, note, addition}
 use Rattle.history.specs.Runs.{in_transaction, Sound}
-use Rattle.history.proofs.Logic.{not_both, no_some, at_same, at_other, not_false}
+use Rattle.history.proofs.Logic.{no_some, at_same, at_other}
 use Rattle.history.proofs.Rules.{commit_silent, commit_behind, read_bar}
 use Rattle.history.proofs.Views.{view, sight, Quiet}
 use Rattle.history.proofs.GrantedReads.{ReadAll, made_reads}
@@ -133,7 +134,7 @@ module _ {P : Type 0} (facts : P → Facts) (after : P → Move → P → Type 0
       keeps a.policy b.policy (write_refused t v) (one_move facts after strict (write_refused t v) a.policy b.policy (last_alone facts after strict s' refl refl)) in (
         order,
         bar_write_keeps t (view facts a) (view facts b) L order inv v (record {
-          barred = not_false ((facts a.policy).no_write t v) h.barred;
+          barred = not-false ((facts a.policy).no_write t v) h.barred;
           rule = h.ended;
           quiet = record { shared = s'.shared; pending = s'.other_pending };
         }),
@@ -200,7 +201,7 @@ module _ {P : Type 0} (facts : P → Facts) (after : P → Move → P → Type 0
                 (idle_keeps (view facts a) (view facts b) L order inv (record {
                   facts = ap facts c;
                   shared = s'.shared;
-                  pending = λ u l v. s'.other_pending u (λ q. not_both (subst (λ (w : ℕ). (facts a.policy).active w ≡ true) q l) out) v;
+                  pending = λ u l v. s'.other_pending u (λ q. both_ways _ out (subst (λ (w : ℕ). (facts a.policy).active w ≡ true) q l)) v;
                 })),
           )
 

@@ -1,7 +1,9 @@
 -- What a call leaves standing of the tasks that didn't make it.
 use Rattle.std.proofs.Common.{◌≡◌, ℕ, ◌<◌, true, false, ◌≢◌, ◌⊎◌, List, [], ◌∷◌, ◌++◌, ℤ, sym, refl, ap, ◌∙◌, subst, inl, inr, append_assoc, arith}
+use Rattle.std.proofs.lemmas.Bool.{cases_Bool}
 use native.Mathlib.Decide.{ℕ_discrete}
 use mathlib.Core.Path.{fun_ext}
+use mathlib.Core.List.Memᴰ
 use mathlib.Core.List.{Memᴰ, Permᴰ}
 use mathlib.Core.Option.{none}
 use Rattle.history.specs.Steps.{zeros}
@@ -9,15 +11,14 @@ use Rattle.history.specs.Transactions.{Fate, unended, Transaction, Ledger, calls
 use Rattle.history.specs.Alone.{nothing_pending, Exact}
 use Rattle.history.specs.Serial.{all_committed, replay}
 use Rattle.history.specs.Law.{Stood, earlier, OneMoment, Rival}
-use Rattle.history.proofs.Logic.{truth, no_some, contraposed}
+use Rattle.history.proofs.Logic.{no_some, contraposed}
 use Rattle.history.proofs.Accesses.{within_more, exact_answered}
-use Rattle.history.proofs.Orders.{mem-++}
 use Rattle.history.proofs.Views.{View}
 use Rattle.history.proofs.Invariant.{Fences, Behind, UpToDate, Held, Standing, Settled, Latest, Active, Invariant}
 use Rattle.history.proofs.Ledgers.{Grows, AllUnended, rival_grows, rival_later, shut}
 
 pub unended_all : {a : View} {L : Ledger} {order : List Transaction} → Invariant a L order → AllUnended L
-unended_all {a} {L} {order} g t T e = go (truth (a.facts.active t))
+unended_all {a} {L} {order} g t T e = go (cases_Bool (a.facts.active t))
   where
     go : (a.facts.active t ≡ true) ⊎ (a.facts.active t ≡ false) → T.fate ≡ unended
     go (inl h) =
@@ -50,7 +51,7 @@ append_shift b u first order T fences recent pre post e = record {
   post' = post ++ (T ∷ []);
   cut = ap (λ (r : List Transaction). r ++ (T ∷ [])) e ∙ append_assoc pre post (T ∷ []);
   same = refl;
-  newer = λ U m. go U (mem-++ U post (T ∷ []) m);
+  newer = λ U m. go U (Memᴰ.append_cases post m);
 }
   where
     go : (U : Transaction) → Memᴰ U post ⊎ Memᴰ U (T ∷ []) → Memᴰ U post ⊎ (Fences b u U × (U.last < first → ⊥))

@@ -1,5 +1,5 @@
 -- A step taken apart: which check decided its answer, and what its moves come to.
-use Rattle.std.proofs.Common.{◌≡◌, ℕ, suc, Bool, true, false, List, [], ◌∷◌, ◌++◌, map, length, ℤ, sym, refl, ap, ◌∙◌, subst, arith}
+use Rattle.std.proofs.Common.{◌≡◌, ℕ, suc, Bool, true, false, List, [], ◌∷◌, ◌++◌, map, length, ℤ, sym, refl, ap, ◌∙◌, subst}
 use native.Mathlib.Decide.{ℕ_discrete}
 use mathlib.Core.Option.{Option, none, some}
 use Rattle.policy.specs.Facts.{Facts, may_read}
@@ -89,13 +89,13 @@ made_none none_made e = refl
 made_none (made {vs = vs} {rs = rs} v m) e = absurd (go vs e)
   where
     go : (vs : List ℕ) → vs ++ (v ∷ []) ≡ [] → ⊥
-    go [] h = let z : ◌≡◌ {A = ℕ} 0 1 = cc in omega arith
-    go (w ∷ ws) h = let z : ◌≡◌ {A = ℕ} 0 1 = cc in omega arith
+    go [] h = cc
+    go (w ∷ ws) h = cc
 made_none (left_out {vs = vs} {rs = rs} v i m) e = absurd (go vs e)
   where
     go : (vs : List ℕ) → vs ++ (v ∷ []) ≡ [] → ⊥
-    go [] h = let z : ◌≡◌ {A = ℕ} 0 1 = cc in omega arith
-    go (w ∷ ws) h = let z : ◌≡◌ {A = ℕ} 0 1 = cc in omega arith
+    go [] h = cc
+    go (w ∷ ws) h = cc
 
 module _ {P : Type 0} (facts : P → Facts) (after : P → Move → P → Type 0) (strict : Bool) where
   pub no_move : (ms : List Move) (p q : P) → ms ≡ [] → Chain after ms p q → q ≡ p

@@ -12,7 +12,7 @@ use Rattle.history.proofs.Logic.{no_some}
 -- the orders of two
 module _ {A : Type 0} where
   cons_nil : {x : A} {xs : List A} → ◌≡◌ {A = List A} (x ∷ xs) [] → ⊥
-  cons_nil e = let z : ◌≡◌ {A = ℕ} 0 1 = cc in omega arith
+  cons_nil e = cc
 
   perm_none : {xs ys : List A} → Permᴰ xs ys → ys ≡ [] → xs ≡ []
   perm_none Permᴰ.nil e = refl

@@ -1,5 +1,6 @@
 -- Stages and policy keep agreeing after every call.
 use Rattle.std.proofs.Common.{◌≡◌, ℕ, Bool, true, false, ◌≢◌, ◌⊎◌, List, [], ◌∷◌, map, pos, sym, refl, ap, ◌∙◌, subst, inl, inr}
+use Rattle.std.proofs.lemmas.Bool.{cases_Bool}
 use native.Mathlib.Decide.{ℕ_discrete}
 use Rattle.policy.specs.Facts.{Facts, Proper}
 use Rattle.policy.specs.Moves.{Move, Keeps, read_refused, write_refused, commit_refused}
@@ -8,7 +9,6 @@ use Rattle.history.specs.Calls.{Call, begin, read, write, collect, snapshot, com
 use Rattle.history.specs.Answers.{Stage, idle, active, broken}
 use Rattle.history.specs.Steps.{State, Chain, Step, in_case, first_moves, refused_read, abort_moves, last_moves}
 use Rattle.history.specs.Runs.{in_transaction, Sound, New}
-use Rattle.history.proofs.Logic.{truth}
 use Rattle.history.proofs.OwnTask.{Own, own_task}
 
 -- the task whose call a move is
@@ -50,7 +50,7 @@ beside_more p q = record {
 
 -- so the write sets of all other tasks stay as they are
 pub same_writes : {t : ℕ} {f g : Facts} → Proper f → Proper g → Beside t f g → (u : ℕ) → u ≢ t → (v : ℕ) → g.writes u v ≡ f.writes u v
-same_writes {t} {f} {g} pf pg h u ne v = go (truth (f.active u))
+same_writes {t} {f} {g} pf pg h u ne v = go (cases_Bool (f.active u))
   where
     go : (f.active u ≡ true) ⊎ (f.active u ≡ false) → g.writes u v ≡ f.writes u v
     go (inl l) = h.writes u ne l v
@@ -122,7 +122,7 @@ module _ {P : Type 0} (facts : P → Facts) where
     pub step_sound : {c : Call} {a b : State P} {r : Answer} → Step facts after strict c a r b → Sound facts a → Sound facts b
     step_sound {c} {a} {b} {r} s sound = record {
       agree = λ u. agree u (ℕ_discrete u (task c));
-      unwritten = λ u v e. unwritten u v e (ℕ_discrete u (task c)) (truth ((facts a.policy).active u));
+      unwritten = λ u v e. unwritten u v e (ℕ_discrete u (task c)) (cases_Bool ((facts a.policy).active u));
     }
       where
         own : Own facts after strict keeps proper a b sound c r

@@ -1,5 +1,6 @@
 -- The law, from the invariant, over any run.
 use Rattle.std.proofs.Common.{◌≡◌, ℕ, Bool, true, false, ◌⊎◌, List, [], ℤ, sym, refl, ap, ◌∙◌, subst, inl, inr, arith}
+use Rattle.std.proofs.lemmas.Bool.{cases_Bool, both_ways}
 use mathlib.Core.Path.{fun_ext}
 use mathlib.Core.List.Permᴰ
 use mathlib.Core.Option.{Option, some}
@@ -10,7 +11,7 @@ use Rattle.history.specs.Transactions.{unended, policy_refused, Transaction, Led
 use Rattle.history.specs.Alone.{nothing_pending}
 use Rattle.history.specs.Law.{OneMoment, Lawful}
 use Rattle.history.specs.Runs.{UnrefusedAlone, Sound, New, Leads, none_yet, then, LawStands, StaysSound}
-use Rattle.history.proofs.Logic.{truth, not_both, no_some}
+use Rattle.history.proofs.Logic.{no_some}
 use Rattle.history.proofs.Accesses.{exact_answered}
 use Rattle.history.proofs.Views.{View, view}
 use Rattle.history.proofs.Invariant.{Held, Active, Invariant}
@@ -29,7 +30,7 @@ held_moment {L} {T} h = record {
 }
 
 unended_unbarred : {asked : Option ℕ} {passed : List ℕ} → unended ≡ policy_refused asked passed → ⊥
-unended_unbarred e = let z : ◌≡◌ {A = ℕ} 0 1 = cc in omega arith
+unended_unbarred e = cc
 
 pub invariant_lawful : (a : View) (h : History) (order : List Transaction) → Invariant a (read_off h) order → Lawful h a.shared
 invariant_lawful a h order inv = record {
@@ -40,7 +41,7 @@ invariant_lawful a h order inv = record {
     ends = λ v. ap (λ (s : ℕ → ℤ). s v) inv.ends;
     in_order = inv.in_order;
   };
-  one_moment = λ T k. elim k [ inl m ↦ (inv.settled T m).moment | inr c ↦ current_moment c.0 T c.1 (truth (a.facts.active c.0)) ];
+  one_moment = λ T k. elim k [ inl m ↦ (inv.settled T m).moment | inr c ↦ current_moment c.0 T c.1 (cases_Bool (a.facts.active c.0)) ];
   rivals = λ T asked passed k e. elim k [
     | inl m ↦ (inv.settled T m).rival asked passed e
     | inr c ↦ absurd (unended_unbarred (sym (unended_all inv c.0 T c.1) ∙ e))
@@ -72,7 +73,7 @@ module _ {P : Type 0} (facts : P → Facts) (after : P → Move → P → Type 0
     in_order = tt;
     bounded = λ U m. elim m [ ];
     latest = tt;
-    active = λ t h. absurd (not_both h (n.fresh t));
+    active = λ t h. absurd (both_ways _ (n.fresh t) h);
     idle = λ t h. refl;
     settled = λ T m. elim m [ ];
   }

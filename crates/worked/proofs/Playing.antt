@@ -1,5 +1,6 @@
 -- Runs built from the requests made of a policy, one by one, and how it answered.
 use Rattle.std.proofs.Common.{◌≡◌, true, List, [], ◌∷◌, ◌++◌, reverse, Ok, Err, Result, sym, refl, ap, ◌∙◌, subst}
+use Rattle.std.proofs.lemmas.Bool.{and_parts}
 use mathlib.Core.Option.{Option, none, some}
 use Rattle.policy.specs.declared.PolicyFault.{PolicyFault}
 use Rattle.policy.specs.declared.PolicyFault.TheVariants.{Unfit, ReadBarred, WriteBarred, CommitRefused}
@@ -12,7 +13,6 @@ use Rattle.history.specs.Calls.{Call, begin, read, write, collect, snapshot, com
 use Rattle.history.specs.Steps.{State, in_case, Chain}
 use Rattle.history.specs.Transactions.{History}
 use Rattle.history.specs.Runs.{New, Leads, none_yet, then}
-use Rattle.history.proofs.Logic.{both_true}
 use Rattle.worked.specs.Policies.{Kind, lock, own, clock, eager_clock, PolicyOf, stated, Made}
 use Rattle.worked.specs.Lines.{Line, Is, calls_made, line_calls}
 use Rattle.worked.specs.Rows.{Row, Played}
@@ -168,7 +168,7 @@ reached : (k : Kind) (ls : List Line) (p q : PolicyOf k) → all_plain ls ≡ tr
     → Made k p → AskedInTurn (stated k) (requests_for ls) p q → Reached k ls q
 reached k [] p q e right ms fresh made asked = unplayed k p q fresh made asked
 reached k (l ∷ ls) p q e right ms fresh made asked =
-    let both = both_true (plain l.call) (all_plain ls) e in
+    let both = and_parts (plain l.call) (all_plain ls) e in
     let parts = asked_split (stated k) (requests_for ls) (one_or_none (requested l)) p q asked in
     let so_far : Reached k ls parts.0 = reached k ls p parts.0 both.1 right.1 ms.1 fresh made parts.1 in
     moved_on k ls both.1 right.1 parts.0 so_far l q both.0 right.0
