@@ -17,7 +17,7 @@ found v (w ∷ vs) (Memᴰ.tail m) = go (eqb v w) (found v vs m)
     go false h = h
 
 stands_still : (w : ℕ) (vs : List ℕ) (v : ℕ) → stands_in w vs ≡ true → stands_in w (vs ++ (v ∷ [])) ≡ true
-stands_still w [] v h = absurd (both_ways _ refl h)
+stands_still w [] v h = absurd (cc)
 stands_still w (u ∷ vs) v h = go (eqb w u) (stands_still w vs v) h
   where
     go : (b : Bool) → (stands_in w vs ≡ true → stands_in w (vs ++ (v ∷ [])) ≡ true) → b || stands_in w vs ≡ true → b || stands_in w (vs ++ (v ∷ [])) ≡ true
@@ -45,7 +45,7 @@ one_more (w ∷ vs) v = go (one_more vs v) (stands_in w vs) (stands_in w (vs ++ 
     go h false false p q = omega arith
 
 no_more : (vs : List ℕ) (v : ℕ) → stands_in v vs ≡ true → different (vs ++ (v ∷ [])) ≤ different vs
-no_more [] v h = absurd (both_ways _ refl h)
+no_more [] v h = absurd (cc)
 no_more (w ∷ vs) v h = go (no_more vs v) (or_cases (eqb v w) (stands_in v vs) h) (stands_in w vs) (stands_in w (vs ++ (v ∷ []))) refl refl
   where
     go : (stands_in v vs ≡ true → different (vs ++ (v ∷ [])) ≤ different vs) → (eqb v w ≡ true) ⊎ (stands_in v vs ≡ true)

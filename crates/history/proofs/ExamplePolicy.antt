@@ -1,6 +1,6 @@
 -- The small policy of the example keeps the rules.
 use Rattle.std.proofs.Common.{◌≡◌, ℕ, zero, suc, ◌<◌, Bool, true, false, ◌&&◌, eqb, ◌≢◌, sym, refl, subst, lit<}
-use Rattle.std.proofs.lemmas.Bool.{and_parts, ne_eqb, eqb-true, both_ways}
+use Rattle.std.proofs.lemmas.Bool.{and_parts, ne_eqb, eqb-true}
 use Rattle.policy.specs.Limits.{tasks, variables}
 use Rattle.policy.specs.Facts.{Proper}
 use Rattle.policy.specs.Moves.{Only, Others, Unchanged, Beside, Spared, Passed, Begun, HasRead, HasWritten, Committed, Refused}
@@ -23,7 +23,7 @@ pair_proper p = record {
   read_below = read_below;
   written_below = written_below;
   no_read_below = no_read_below;
-  no_write_below = λ t v e. absurd (both_ways _ refl e);
+  no_write_below = λ t v e. absurd (cc);
 }
   where
     no_reads : (t v : ℕ) → (pair_facts p).active t ≡ false → (pair_facts p).reads t v ≡ false
@@ -43,21 +43,21 @@ pair_proper p = record {
     task : (t : ℕ) → (pair_facts p).active t ≡ true → t < tasks
     task zero e = lit< tt
     task (suc zero) e = lit< tt
-    task (suc (suc t)) e = absurd (both_ways _ refl e)
+    task (suc (suc t)) e = absurd (cc)
 
     read_below : (t v : ℕ) → (pair_facts p).reads t v ≡ true → v < variables
-    read_below zero v e = absurd (both_ways _ refl e)
+    read_below zero v e = absurd (cc)
     read_below (suc zero) v e = below (p.one_active && p.one_read) v e
-    read_below (suc (suc t)) v e = absurd (both_ways _ refl e)
+    read_below (suc (suc t)) v e = absurd (cc)
 
     written_below : (t v : ℕ) → (pair_facts p).writes t v ≡ true → v < variables
     written_below zero v e = below (p.zero_active && p.zero_wrote) v e
-    written_below (suc t) v e = absurd (both_ways _ refl e)
+    written_below (suc t) v e = absurd (cc)
 
     no_read_below : (t v : ℕ) → (pair_facts p).no_read t v ≡ true → v < variables
-    no_read_below zero v e = absurd (both_ways _ refl e)
+    no_read_below zero v e = absurd (cc)
     no_read_below (suc zero) v e = below (p.one_active && (p.zero_active && p.zero_wrote)) v e
-    no_read_below (suc (suc t)) v e = absurd (both_ways _ refl e)
+    no_read_below (suc (suc t)) v e = absurd (cc)
 
 -- who is active, whether task 0 has written, whether task 1 has read
 abbrev pub pair : Bool → Bool → Bool → Bool → Pair
@@ -77,12 +77,12 @@ only_one p q e (suc (suc u)) ne = refl
 but_zero : (R : ℕ → Type 0) (p : Pair) → (p.one_active ≡ true → R 1) → Others 0 (pair_facts p) R
 but_zero R p h zero ne e = absurd (ne refl)
 but_zero R p h (suc zero) ne e = h e
-but_zero R p h (suc (suc u)) ne e = absurd (both_ways _ refl e)
+but_zero R p h (suc (suc u)) ne e = absurd (cc)
 
 but_one : (R : ℕ → Type 0) (p : Pair) → (p.zero_active ≡ true → R 0) → Others 1 (pair_facts p) R
 but_one R p h zero ne e = h e
 but_one R p h (suc zero) ne e = absurd (ne refl)
-but_one R p h (suc (suc u)) ne e = absurd (both_ways _ refl e)
+but_one R p h (suc (suc u)) ne e = absurd (cc)
 
 -- the pair at each stage of the story
 abbrev pub nobody : Pair
@@ -113,10 +113,10 @@ begin_zero = record {
   behind = refl;
   reads = λ v. refl;
   writes = λ v. refl;
-  no_read = λ v e. absurd (both_ways _ refl e);
-  no_write = λ v e. absurd (both_ways _ refl e);
+  no_read = λ v e. absurd (cc);
+  no_write = λ v e. absurd (cc);
   only = only_zero nobody zero_began refl;
-  others = but_zero (Unchanged (pair_facts nobody) (pair_facts zero_began)) nobody (λ e. absurd (both_ways _ refl e));
+  others = but_zero (Unchanged (pair_facts nobody) (pair_facts zero_began)) nobody (λ e. absurd (cc));
 }
 
 pub begin_one : Begun 1 (pair_facts zero_began) (pair_facts both_began)
@@ -126,8 +126,8 @@ begin_one = record {
   behind = refl;
   reads = λ v. refl;
   writes = λ v. refl;
-  no_read = λ v e. absurd (both_ways _ refl e);
-  no_write = λ v e. absurd (both_ways _ refl e);
+  no_read = λ v e. absurd (cc);
+  no_write = λ v e. absurd (cc);
   only = only_one zero_began both_began refl;
   others = but_one (Unchanged (pair_facts zero_began) (pair_facts both_began)) zero_began (λ e. record {
     sets = record { reads = λ v. refl; writes = λ v. refl };
@@ -150,7 +150,7 @@ write_zero = record {
   others = but_zero (Beside 5 (pair_facts both_began) (pair_facts zero_has_written)) both_began (λ e. record {
     sets = record { reads = λ v. refl; writes = λ v. refl };
     behind = refl;
-    no_read_kept = λ w h. absurd (both_ways _ refl h);
+    no_read_kept = λ w h. absurd (cc);
     no_read_gain = no_five;
     no_write_kept = λ w h. h;
     no_write_gain = λ w ne. refl;
@@ -180,7 +180,7 @@ commit_zero = record {
   granted = refl;
   gone = refl;
   only = only_zero one_was_refused nobody refl;
-  others = but_zero (Passed 0 (pair_facts one_was_refused) (pair_facts nobody)) one_was_refused (λ e. absurd (both_ways _ refl e));
+  others = but_zero (Passed 0 (pair_facts one_was_refused) (pair_facts nobody)) one_was_refused (λ e. absurd (cc));
 }
 
 pub begin_again : Begun 1 (pair_facts nobody) (pair_facts one_began)
@@ -190,10 +190,10 @@ begin_again = record {
   behind = refl;
   reads = λ v. refl;
   writes = λ v. refl;
-  no_read = λ v e. absurd (both_ways _ refl e);
-  no_write = λ v e. absurd (both_ways _ refl e);
+  no_read = λ v e. absurd (cc);
+  no_write = λ v e. absurd (cc);
   only = only_one nobody one_began refl;
-  others = but_one (Unchanged (pair_facts nobody) (pair_facts one_began)) nobody (λ e. absurd (both_ways _ refl e));
+  others = but_one (Unchanged (pair_facts nobody) (pair_facts one_began)) nobody (λ e. absurd (cc));
 }
 
 pub read_one : HasRead 1 5 (pair_facts one_began) (pair_facts one_has_read)
@@ -202,13 +202,13 @@ read_one = record {
   granted = refl;
   active = refl;
   behind = refl;
-  own = λ e. absurd (both_ways _ refl e);
+  own = λ e. absurd (cc);
   shared = λ e. refl;
   reads = no_five;
   writes = λ w. refl;
   bars = record { no_read = λ v. refl; no_write = λ v. refl };
   only = only_one one_began one_has_read refl;
-  others = but_one (Beside 5 (pair_facts one_began) (pair_facts one_has_read)) one_began (λ e. absurd (both_ways _ refl e));
+  others = but_one (Beside 5 (pair_facts one_began) (pair_facts one_has_read)) one_began (λ e. absurd (cc));
 }
 
 pub read_again : HasRead 1 5 (pair_facts one_has_read) (pair_facts one_has_read)
@@ -223,7 +223,7 @@ read_again = record {
   writes = λ w. refl;
   bars = record { no_read = λ v. refl; no_write = λ v. refl };
   only = λ u ne. refl;
-  others = but_one (Beside 5 (pair_facts one_has_read) (pair_facts one_has_read)) one_has_read (λ e. absurd (both_ways _ refl e));
+  others = but_one (Beside 5 (pair_facts one_has_read) (pair_facts one_has_read)) one_has_read (λ e. absurd (cc));
 }
 
 pub commit_one : Committed true 1 (pair_facts one_has_read) (pair_facts nobody)
@@ -232,5 +232,5 @@ commit_one = record {
   granted = refl;
   gone = refl;
   only = only_one one_has_read nobody refl;
-  others = but_one (Passed 1 (pair_facts one_has_read) (pair_facts nobody)) one_has_read (λ e. absurd (both_ways _ refl e));
+  others = but_one (Passed 1 (pair_facts one_has_read) (pair_facts nobody)) one_has_read (λ e. absurd (cc));
 }

@@ -1,5 +1,5 @@
 -- The refuted histories, by computation.
-use Rattle.std.proofs.Common.{◌≡◌, ℕ, Bool, true, false, cond, eqb, ◌⊎◌, List, [], ◌∷◌, ℤ, pos, sym, refl, ap, ◌∙◌, subst, inl, inr, arith, lit<}
+use Rattle.std.proofs.Common.{◌≡◌, ℕ, Bool, true, false, cond, eqb, ◌⊎◌, List, [], ◌∷◌, ℤ, pos, sym, refl, ap, ◌∙◌, subst, inl, inr, lit<}
 use mathlib.Core.List.{Memᴰ, Permᴰ}
 use mathlib.Core.Option.{Option, none, some}
 use Rattle.history.specs.Steps.{zeros}
@@ -46,10 +46,10 @@ stale_unordered s = go (perm_two reader writer s.each_once refl)
 
     go : (s.order ≡ reader ∷ writer ∷ []) ⊎ (s.order ≡ writer ∷ reader ∷ []) → ⊥
     go (inl e) = (subst InOrder e s.in_order).0 writer (Memᴰ.head refl) (lit< tt)
-    go (inr e) = let q : pos 0 ≡ pos 7 = (subst (AllExact zeros) e s.exact).1.0.0 in let z : ◌≡◌ {A = ℕ} 0 7 = cc in omega arith
+    go (inr e) = let q : pos 0 ≡ pos 7 = (subst (AllExact zeros) e s.exact).1.0.0 in cc
 
 seven_zero : pos 7 ≡ pos 0 → ⊥
-seven_zero q = let z : ◌≡◌ {A = ℕ} 7 0 = cc in omega arith
+seven_zero q = cc
 
 unshared_unordered : SerialOrder (read_off unshared) zeros → ⊥
 unshared_unordered s = seven_zero (subst (λ (Ts : List Transaction). replay zeros Ts 5 ≡ pos 0) (perm_one writer s.each_once refl) (s.ends 5))

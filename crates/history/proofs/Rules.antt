@@ -1,5 +1,5 @@
 -- What the rules of a policy come to, for one task.
-use Rattle.std.proofs.Common.{◌≡◌, ℕ, zero, suc, ◌<◌, Bool, true, false, not, ◌&&◌, ◌||◌, ◌⊎◌, sym, refl, ap, ◌∙◌, inl, inr, arith}
+use Rattle.std.proofs.Common.{◌≡◌, ℕ, zero, suc, ◌<◌, Bool, true, false, not, ◌&&◌, ◌||◌, ◌⊎◌, sym, ap, ◌∙◌, inl, inr, arith}
 use Rattle.std.proofs.lemmas.Bool.{cases_Bool, or_parts, and_parts, not-true, not-false, both_ways}
 use native.Mathlib.Decide.{ℕ_discrete}
 use Rattle.policy.specs.Limits.{variables}
@@ -25,7 +25,7 @@ commit_silent strict f t proper may behind w = go (cases_Bool (f.writes t w))
 
     none_written : (x : Bool) → not (x && some_written) ≡ true → x ≡ true → some_written ≡ false
     none_written true h e = not-true some_written h
-    none_written false h e = absurd (both_ways _ refl e)
+    none_written false h e = absurd (cc)
 
     go : (f.writes t w ≡ true) ⊎ (f.writes t w ≡ false) → f.writes t w ≡ false
     go (inl e) = none_below variables (f.writes t)

@@ -1,6 +1,5 @@
 -- A run of calls that make no list of reads, where the policy's moves are functions of what it holds: replayed, it can end in one way only.
 use Rattle.std.proofs.Common.{◌≡◌, ℕ, ◌≤◌, Bool, true, false, ◌≢◌, List, [], ◌∷◌, ◌++◌, map, length, ℤ, sym, refl, ap, ◌∙◌, subst, arith, length-append}
-use Rattle.std.proofs.lemmas.Bool.{both_ways}
 use native.Mathlib.Decide.{ℕ_discrete}
 use mathlib.Core.Path.{fun_ext}
 use mathlib.Core.List.{Memᴰ}
@@ -56,8 +55,8 @@ pub no_first_moves : (c : Call) (r : Answer) → plain c ≡ true → first_move
 no_first_moves (begin t) r e = refl
 no_first_moves (read t v) r e = refl
 no_first_moves (write t v x) r e = refl
-no_first_moves (collect t vs room) r e = absurd (both_ways _ refl e)
-no_first_moves (snapshot t vs room) r e = absurd (both_ways _ refl e)
+no_first_moves (collect t vs room) r e = absurd (cc)
+no_first_moves (snapshot t vs room) r e = absurd (cc)
 no_first_moves (commit t) r e = refl
 no_first_moves (abort t) r e = refl
 
@@ -66,8 +65,8 @@ pub no_count : (c : Call) (see : ℕ → ℤ) (k : ℕ) → plain c ≡ true →
 no_count (begin t) see k e = refl
 no_count (read t v) see k e = refl
 no_count (write t v x) see k e = refl
-no_count (collect t vs room) see k e = absurd (both_ways _ refl e)
-no_count (snapshot t vs room) see k e = absurd (both_ways _ refl e)
+no_count (collect t vs room) see k e = absurd (cc)
+no_count (snapshot t vs room) see k e = absurd (cc)
 no_count (commit t) see k e = refl
 no_count (abort t) see k e = refl
 
@@ -83,8 +82,8 @@ pub few_reads : (c : Call) (r : Answer) → plain c ≡ true → length (granted
 few_reads (begin t) r e = omega arith
 few_reads (read t v) r e = one_read t v r
 few_reads (write t v x) r e = omega arith
-few_reads (collect t vs room) r e = absurd (both_ways _ refl e)
-few_reads (snapshot t vs room) r e = absurd (both_ways _ refl e)
+few_reads (collect t vs room) r e = absurd (cc)
+few_reads (snapshot t vs room) r e = absurd (cc)
 few_reads (commit t) r e = omega arith
 few_reads (abort t) r e = omega arith
 
