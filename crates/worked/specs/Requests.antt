@@ -33,9 +33,9 @@ refused_move (Commit t) = commit_refused t
 
 -- a policy that is asked for one thing at p answers as its facts say, and is then at q
 abbrev pub Asked : {P : Type 0} → Ghosts P → Request → P → P → Type 0
-Asked policy c p q = Moved policy.after (granted_move c) (refused_move c) p q (answer_to policy.STRICT c (policy.facts p))
+Asked stated c p q = Moved stated.after (granted_move c) (refused_move c) p q (answer_to stated.STRICT c (stated.facts p))
 
 -- asked for several things, one after another, it goes from p to q
 abbrev pub AskedInTurn : {P : Type 0} → Ghosts P → List Request → P → P → Type 0
-AskedInTurn policy [] p q = q ≡ p
-AskedInTurn {P} policy (c ∷ cs) p q = (mid : P) × Asked policy c p mid × AskedInTurn policy cs mid q
+AskedInTurn stated [] p q = q ≡ p
+AskedInTurn {P} stated (c ∷ cs) p q = (mid : P) × Asked stated c p mid × AskedInTurn stated cs mid q
