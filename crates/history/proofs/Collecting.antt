@@ -1,5 +1,6 @@
 -- A collect or a snapshot on its way: what has been read so far, one variable after another, and the step that it ends in.
-use Rattle.std.proofs.Common.{◌≡◌, ℕ, suc, Bool, true, false, ◌≢◌, List, [], ◌∷◌, ◌++◌, map, length, take, sym, refl, ap, ◌∙◌, subst, arith, length-append}
+use Rattle.std.proofs.Common.{◌≡◌, ℕ, suc, Bool, true, false, ◌≢◌, List, [], ◌∷◌, ◌++◌, map, length, sym, refl, ap, ◌∙◌, subst, arith, length-append}
+use Rattle.std.proofs.Math.Seq.{take-append_seam}
 use mathlib.Core.List.{Memᴰ}
 use mathlib.Core.Option.{none, some}
 use Rattle.policy.specs.Facts.{Facts, may_read}
@@ -11,11 +12,6 @@ use Rattle.history.specs.Steps.{State, Chain, ReadsFor, none_made, made, left_ou
 use Rattle.history.proofs.Logic.{no_some}
 use Rattle.history.proofs.GrantedReads.{ReadAll, made_covers, made_reads}
 use Rattle.history.proofs.Building.{reads_more, granted_more, barred_here, reads_may, answers_granted, answers_barred}
-
--- what stands before the rest of a list
-pub take_all : {A : Type 0} (xs ys : List A) → take (length xs) (xs ++ ys) ≡ xs
-take_all [] ys = refl
-take_all {A} (x ∷ xs) ys = ap (λ (zs : List A). x ∷ zs) (take_all xs ys)
 
 -- what a list with no bar holds may be read
 pub may_read_in : (f : Facts) (t i : ℕ) (vs : List ℕ) (v : ℕ) → first_barred f t i vs ≡ none → Memᴰ v vs → may_read f t v ≡ true
@@ -100,7 +96,7 @@ module _ {P : Type 0} (facts : P → Facts) (after : P → Move → P → Type 0
       answered = answers_barred facts strict (collect t (done ++ (v ∷ ws)) room) a a.policy (length c.reads) (read_barred (listed (length done)) v) fine timely
           (barred_here (facts a.policy) t 0 done v ws c.granted (sym (reads_may (so_far l c) v) ∙ may) ∙ ap (λ (n : ℕ). some (read_barred (listed n) v)) (omega arith));
       opening = refl;
-      reads_made = subst (λ (vs : List ℕ). ReadsFor vs c.reads) (sym (take_all done (v ∷ ws))) c.made_for;
+      reads_made = subst (λ (vs : List ℕ). ReadsFor vs c.reads) (sym (take-append_seam done (v ∷ ws))) c.made_for;
       reading = c.chain;
       closing = (b.policy, h, refl);
       stage = stage;
@@ -144,7 +140,7 @@ module _ {P : Type 0} (facts : P → Facts) (after : P → Move → P → Type 0
           (barred_here (facts opened) t 0 done v ws c.granted (sym (reads_may (so_far (keeps a.policy opened (begins t) begun).active c) v) ∙ may)
           ∙ ap (λ (n : ℕ). some (read_barred (listed n) v)) (omega arith));
       opening = (opened, begun, refl);
-      reads_made = subst (λ (vs : List ℕ). ReadsFor vs c.reads) (sym (take_all done (v ∷ ws))) c.made_for;
+      reads_made = subst (λ (vs : List ℕ). ReadsFor vs c.reads) (sym (take-append_seam done (v ∷ ws))) c.made_for;
       reading = c.chain;
       closing = (b.policy, h, refl);
       stage = stage;

@@ -1,13 +1,10 @@
 -- The small policy of the example keeps the rules.
-use Rattle.std.proofs.Common.{◌≡◌, ℕ, zero, suc, ◌<◌, Bool, true, false, ◌&&◌, eqb, ◌≢◌, sym, refl, subst, lit<}
+use Rattle.std.proofs.Common.{◌≡◌, ℕ, zero, suc, ◌<◌, Bool, true, false, ◌&&◌, eqb, sym, refl, subst, lit<}
 use Rattle.std.proofs.lemmas.Bool.{and_parts, ne_eqb, eqb-true}
 use Rattle.policy.specs.Limits.{tasks, variables}
 use Rattle.policy.specs.Facts.{Proper}
 use Rattle.policy.specs.Moves.{Only, Others, Unchanged, Beside, Spared, Passed, Begun, HasRead, HasWritten, Committed, Refused}
 use Rattle.history.specs.Example.{Pair, pair_facts}
-
-no_five : (v : ℕ) → v ≢ 5 → eqb v 5 ≡ false
-no_five v ne = ne_eqb v 5 ne
 
 below : (x : Bool) (v : ℕ) → x && eqb v 5 ≡ true → v < variables
 below x v e = subst (λ (w : ℕ). w < variables) (sym (eqb-true v 5 (and_parts x (eqb v 5) e).1)) (lit< tt)
@@ -144,14 +141,14 @@ write_zero = record {
   behind = refl;
   reads = λ w. refl;
   written = refl;
-  writes = no_five;
+  writes = λ w ne. ne_eqb w 5 ne;
   bars = record { no_read = λ v. refl; no_write = λ v. refl };
   only = only_zero both_began zero_has_written refl;
   others = but_zero (Beside 5 (pair_facts both_began) (pair_facts zero_has_written)) both_began (λ e. record {
     sets = record { reads = λ v. refl; writes = λ v. refl };
     behind = refl;
     no_read_kept = λ w h. absurd (cc);
-    no_read_gain = no_five;
+    no_read_gain = λ w ne. ne_eqb w 5 ne;
     no_write_kept = λ w h. h;
     no_write_gain = λ w ne. refl;
   });
@@ -204,7 +201,7 @@ read_one = record {
   behind = refl;
   own = λ e. absurd (cc);
   shared = λ e. refl;
-  reads = no_five;
+  reads = λ w ne. ne_eqb w 5 ne;
   writes = λ w. refl;
   bars = record { no_read = λ v. refl; no_write = λ v. refl };
   only = only_one one_began one_has_read refl;

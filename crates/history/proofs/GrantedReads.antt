@@ -92,11 +92,11 @@ read_none t f l = record {
 pub read_one : {t v : ℕ} {f g : Facts} → HasRead t v f g → ReadAll t (v ∷ []) f g
 read_one {t} {v} {f} {g} p = record {
   was = p.was;
-  granted = λ w m. subst (λ (x : ℕ). (f.writes t x ≡ true) ⊎ (f.no_read t x ≡ false)) (sym (the_one w m)) may;
+  granted = λ w m. subst (λ (x : ℕ). (f.writes t x ≡ true) ⊎ (f.no_read t x ≡ false)) (sym (Memᴰ.eq_of_singleton m)) may;
   active = p.active;
   behind = p.behind;
   reads_kept = λ w e. kept w e (ℕ_discrete w v) (cases_Bool (f.writes t v));
-  reads_new = λ w m e. subst (λ (x : ℕ). g.reads t x ≡ true) (sym (the_one w m)) (p.shared (subst (λ (x : ℕ). f.writes t x ≡ false) (the_one w m) e));
+  reads_new = λ w m e. subst (λ (x : ℕ). g.reads t x ≡ true) (sym (Memᴰ.eq_of_singleton m)) (p.shared (subst (λ (x : ℕ). f.writes t x ≡ false) (Memᴰ.eq_of_singleton m) e));
   reads_only = λ w e. news w e (ℕ_discrete w v) (cases_Bool (f.writes t v));
   writes = p.writes;
   no_read = p.bars.no_read;
@@ -105,10 +105,6 @@ read_one {t} {v} {f} {g} p = record {
   others = λ u ne l. beside_one (p.others u ne l);
 }
   where
-    the_one : (w : ℕ) → Memᴰ w (v ∷ []) → w ≡ v
-    the_one w (Memᴰ.head e) = e
-    the_one w (Memᴰ.tail m) = elim m [ ]
-
     may : (f.writes t v ≡ true) ⊎ (f.no_read t v ≡ false)
     may = elim (or_cases (f.writes t v) (not (f.no_read t v)) p.granted) [ inl e ↦ inl e | inr e ↦ inr (not-true (f.no_read t v) e) ]
 
@@ -179,11 +175,7 @@ made_covers none_made w m = m
 made_covers (made {vs = vs} {rs = rs} v r) w m =
     let c = made_covers r in elim (Memᴰ.append_cases vs m) [ inl k ↦ Memᴰ.append_left (v ∷ []) (c w k) | inr k ↦ Memᴰ.append_right rs k ]
 made_covers (left_out {vs = vs} {rs = rs} v i r) w m =
-    let c = made_covers r in elim (Memᴰ.append_cases vs m) [ inl k ↦ c w k | inr k ↦ the_one k ]
-  where
-    the_one : Memᴰ w (v ∷ []) → Memᴰ w rs
-    the_one (Memᴰ.head e) = subst (λ (x : ℕ). Memᴰ x rs) (sym e) i
-    the_one (Memᴰ.tail k) = elim k [ ]
+    let c = made_covers r in elim (Memᴰ.append_cases vs m) [ inl k ↦ c w k | inr k ↦ Memᴰ.cast (Memᴰ.eq_of_singleton k) i ]
 
 pub made_only : {vs rs : List ℕ} → ReadsFor vs rs → (w : ℕ) → Memᴰ w rs → Memᴰ w vs
 made_only none_made w m = m

@@ -11,23 +11,20 @@ use Rattle.history.proofs.Logic.{no_some}
 
 -- the orders of two
 module _ {A : Type 0} where
-  cons_nil : {x : A} {xs : List A} → ◌≡◌ {A = List A} (x ∷ xs) [] → ⊥
-  cons_nil e = cc
-
   perm_none : {xs ys : List A} → Permᴰ xs ys → ys ≡ [] → xs ≡ []
   perm_none Permᴰ.nil e = refl
-  perm_none (Permᴰ.cons q d) e = absurd (cons_nil e)
-  perm_none (Permᴰ.swap p q) e = absurd (cons_nil e)
+  perm_none (Permᴰ.cons q d) e = absurd (cc)
+  perm_none (Permᴰ.swap p q) e = absurd (cc)
   perm_none (Permᴰ.trans d c) e = perm_none d (perm_none c e)
 
   perm_one : {xs ys : List A} (x : A) → Permᴰ xs ys → ys ≡ x ∷ [] → xs ≡ x ∷ []
-  perm_one x Permᴰ.nil e = absurd (cons_nil (sym e))
+  perm_one x Permᴰ.nil e = absurd (cc)
   perm_one x (Permᴰ.cons {l₁ = l₁} {l₂ = l₂} q d) e = let t : l₂ ≡ [] = cc in let s : l₁ ≡ [] = perm_none d t in cc
-  perm_one x (Permᴰ.swap {b' = b'} {l = l} p q) e = let t : b' ∷ l ≡ [] = cc in absurd (cons_nil t)
+  perm_one x (Permᴰ.swap {b' = b'} {l = l} p q) e = absurd (cc)
   perm_one x (Permᴰ.trans d c) e = perm_one x d (perm_one x c e)
 
   pub perm_two : {xs ys : List A} (x y : A) → Permᴰ xs ys → ys ≡ x ∷ y ∷ [] → (xs ≡ x ∷ y ∷ []) ⊎ (xs ≡ y ∷ x ∷ [])
-  perm_two x y Permᴰ.nil e = absurd (cons_nil (sym e))
+  perm_two x y Permᴰ.nil e = absurd (cc)
   perm_two x y (Permᴰ.cons {l₁ = l₁} {l₂ = l₂} q d) e = let t : l₂ ≡ y ∷ [] = cc in let s : l₁ ≡ y ∷ [] = perm_one y d t in inl cc
   perm_two x y (Permᴰ.swap {l = l} p q) e = let t : l ≡ [] = cc in inr cc
   perm_two x y (Permᴰ.trans d c) e = elim (perm_two x y c e) [

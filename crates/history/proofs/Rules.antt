@@ -1,20 +1,10 @@
 -- What the rules of a policy come to, for one task.
-use Rattle.std.proofs.Common.{◌≡◌, ℕ, zero, suc, ◌<◌, Bool, true, false, not, ◌&&◌, ◌||◌, ◌⊎◌, sym, ap, ◌∙◌, inl, inr, arith}
+use Rattle.std.proofs.Common.{◌≡◌, ℕ, Bool, true, false, not, ◌&&◌, ◌||◌, ◌⊎◌, sym, ◌∙◌, inl, inr}
 use Rattle.std.proofs.lemmas.Bool.{cases_Bool, or_parts, and_parts, not-true, not-false, both_ways}
-use native.Mathlib.Decide.{ℕ_discrete}
+use Rattle.policy.proofs.SomeBelow.{some_below_all}
 use Rattle.policy.specs.Limits.{variables}
 use Rattle.policy.specs.Facts.{Facts, some_below, may_read, may_commit, Proper}
 use Rattle.policy.specs.Moves.{Passed, Spared}
-
--- a set of which nothing is below n has nothing below n
-pub none_below : (n : ℕ) (s : ℕ → Bool) → some_below n s ≡ false → (v : ℕ) → v < n → s v ≡ false
-unfolding some_below
-none_below zero s h v l = absurd (omega arith)
-none_below (suc n) s h v l = go (none_below n s) (ℕ_discrete v n) (or_parts (s n) (some_below n s) h)
-  where
-    go : (some_below n s ≡ false → (w : ℕ) → w < n → s w ≡ false) → Dec (v ≡ n) → (s n ≡ false) × (some_below n s ≡ false) → s v ≡ false
-    go below (yes e) k = ap s e ∙ k.0
-    go below (no ne) k = below k.1 v (omega arith)
 
 -- a task that is behind and may commit has written nothing
 pub commit_silent : (strict : Bool) (f : Facts) (t : ℕ) → Proper f → may_commit strict f t ≡ true → f.behind t ≡ true → (w : ℕ) → f.writes t w ≡ false
@@ -28,7 +18,7 @@ commit_silent strict f t proper may behind w = go (cases_Bool (f.writes t w))
     none_written false h e = absurd (cc)
 
     go : (f.writes t w ≡ true) ⊎ (f.writes t w ≡ false) → f.writes t w ≡ false
-    go (inl e) = none_below variables (f.writes t)
+    go (inl e) = some_below_all variables (f.writes t)
         (or_parts strict (some_below variables (f.writes t)) (none_written (f.behind t) may behind)).1 w (proper.written_below t w e)
     go (inr e) = e
 

@@ -1,13 +1,13 @@
 -- The law, from the invariant, over any run.
-use Rattle.std.proofs.Common.{◌≡◌, ℕ, Bool, true, false, ◌⊎◌, List, [], ℤ, sym, refl, ap, ◌∙◌, subst, inl, inr, arith}
+use Rattle.std.proofs.Common.{◌≡◌, ℕ, Bool, true, false, ◌⊎◌, List, [], ℤ, sym, refl, ap, subst, inl, inr, arith}
 use Rattle.std.proofs.lemmas.Bool.{cases_Bool, both_ways}
 use mathlib.Core.Path.{fun_ext}
 use mathlib.Core.List.Permᴰ
-use mathlib.Core.Option.{Option, some}
+use mathlib.Core.Option.{some}
 use Rattle.policy.specs.Facts.{Facts, Proper}
 use Rattle.policy.specs.Moves.{Move, Keeps}
 use Rattle.history.specs.Steps.{State}
-use Rattle.history.specs.Transactions.{unended, policy_refused, Transaction, Ledger, History, new_ledger, read_off}
+use Rattle.history.specs.Transactions.{unended, Transaction, Ledger, History, new_ledger, read_off}
 use Rattle.history.specs.Alone.{nothing_pending}
 use Rattle.history.specs.Law.{OneMoment, Lawful}
 use Rattle.history.specs.Runs.{UnrefusedAlone, Sound, New, Leads, none_yet, then, LawStands, StaysSound}
@@ -29,9 +29,6 @@ held_moment {L} {T} h = record {
   agree = λ v x r. exact_answered h.values nothing_pending T.accesses v x h.exact r;
 }
 
-unended_unbarred : {asked : Option ℕ} {passed : List ℕ} → unended ≡ policy_refused asked passed → ⊥
-unended_unbarred e = cc
-
 pub invariant_lawful : (a : View) (h : History) (order : List Transaction) → Invariant a (read_off h) order → Lawful h a.shared
 invariant_lawful a h order inv = record {
   serial_order = record {
@@ -44,7 +41,7 @@ invariant_lawful a h order inv = record {
   one_moment = λ T k. elim k [ inl m ↦ (inv.settled T m).moment | inr c ↦ current_moment c.0 T c.1 (cases_Bool (a.facts.active c.0)) ];
   rivals = λ T asked passed k e. elim k [
     | inl m ↦ (inv.settled T m).rival asked passed e
-    | inr c ↦ absurd (unended_unbarred (sym (unended_all inv c.0 T c.1) ∙ e))
+    | inr c ↦ (let q : T.fate ≡ unended = unended_all inv c.0 T c.1 in absurd (cc))
   ];
 }
   where
