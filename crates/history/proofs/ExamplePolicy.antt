@@ -1,9 +1,9 @@
 -- The small policy of the example keeps the rules.
-use Rattle.std.proofs.Common.{◌≡◌, ℕ, zero, suc, ◌<◌, Bool, true, false, ◌&&◌, eqb, sym, refl, subst, lit<}
-use Rattle.std.proofs.lemmas.Bool.{and_parts, ne_eqb, eqb-true}
+use Rattle.std.proofs.Common.{◌≡◌, ℕ, zero, suc, ◌<◌, Bool, true, false, ◌&&◌, eqb, sym, refl, subst, lit<, rules}
+use Rattle.std.proofs.lemmas.Bool.{and_parts, eqb-true}
 use Rattle.policy.specs.Limits.{tasks, variables}
 use Rattle.policy.specs.Facts.{Proper}
-use Rattle.policy.specs.Moves.{Only, Others, Unchanged, Beside, Spared, Passed, Begun, HasRead, HasWritten, Committed, Refused}
+use Rattle.policy.specs.Moves.{Begun, HasRead, HasWritten, Committed, Refused}
 use Rattle.history.specs.Example.{Pair, pair_facts}
 
 below : (x : Bool) (v : ℕ) → x && eqb v 5 ≡ true → v < variables
@@ -60,27 +60,6 @@ pair_proper p = record {
 abbrev pub pair : Bool → Bool → Bool → Bool → Pair
 pair a b w r = record { zero_active = a; one_active = b; zero_wrote = w; one_read = r }
 
--- what holds of task 1 holds of all but task 0, and the other way round
-only_zero : (p q : Pair) → q.one_active ≡ p.one_active → Only 0 (pair_facts p) (pair_facts q)
-only_zero p q e zero ne = absurd (ne refl)
-only_zero p q e (suc zero) ne = e
-only_zero p q e (suc (suc u)) ne = refl
-
-only_one : (p q : Pair) → q.zero_active ≡ p.zero_active → Only 1 (pair_facts p) (pair_facts q)
-only_one p q e zero ne = e
-only_one p q e (suc zero) ne = absurd (ne refl)
-only_one p q e (suc (suc u)) ne = refl
-
-but_zero : (R : ℕ → Type 0) (p : Pair) → (p.one_active ≡ true → R 1) → Others 0 (pair_facts p) R
-but_zero R p h zero ne e = absurd (ne refl)
-but_zero R p h (suc zero) ne e = h e
-but_zero R p h (suc (suc u)) ne e = absurd (cc)
-
-but_one : (R : ℕ → Type 0) (p : Pair) → (p.zero_active ≡ true → R 0) → Others 1 (pair_facts p) R
-but_one R p h zero ne e = h e
-but_one R p h (suc zero) ne e = absurd (ne refl)
-but_one R p h (suc (suc u)) ne e = absurd (cc)
-
 -- the pair at each stage of the story
 abbrev pub nobody : Pair
 nobody = pair false false false false
@@ -104,130 +83,28 @@ abbrev pub one_has_read : Pair
 one_has_read = pair false true false true
 
 pub begin_zero : Begun 0 (pair_facts nobody) (pair_facts zero_began)
-begin_zero = record {
-  was = refl;
-  active = refl;
-  behind = refl;
-  reads = λ v. refl;
-  writes = λ v. refl;
-  no_read = λ v e. absurd (cc);
-  no_write = λ v e. absurd (cc);
-  only = only_zero nobody zero_began refl;
-  others = but_zero (Unchanged (pair_facts nobody) (pair_facts zero_began)) nobody (λ e. absurd (cc));
-}
+begin_zero = search rules
 
 pub begin_one : Begun 1 (pair_facts zero_began) (pair_facts both_began)
-begin_one = record {
-  was = refl;
-  active = refl;
-  behind = refl;
-  reads = λ v. refl;
-  writes = λ v. refl;
-  no_read = λ v e. absurd (cc);
-  no_write = λ v e. absurd (cc);
-  only = only_one zero_began both_began refl;
-  others = but_one (Unchanged (pair_facts zero_began) (pair_facts both_began)) zero_began (λ e. record {
-    sets = record { reads = λ v. refl; writes = λ v. refl };
-    behind = refl;
-    bars = record { no_read = λ v. refl; no_write = λ v. refl };
-  });
-}
+begin_one = search rules
 
 pub write_zero : HasWritten 0 5 (pair_facts both_began) (pair_facts zero_has_written)
-write_zero = record {
-  was = refl;
-  granted = refl;
-  active = refl;
-  behind = refl;
-  reads = λ w. refl;
-  written = refl;
-  writes = λ w ne. ne_eqb w 5 ne;
-  bars = record { no_read = λ v. refl; no_write = λ v. refl };
-  only = only_zero both_began zero_has_written refl;
-  others = but_zero (Beside 5 (pair_facts both_began) (pair_facts zero_has_written)) both_began (λ e. record {
-    sets = record { reads = λ v. refl; writes = λ v. refl };
-    behind = refl;
-    no_read_kept = λ w h. absurd (cc);
-    no_read_gain = λ w ne. ne_eqb w 5 ne;
-    no_write_kept = λ w h. h;
-    no_write_gain = λ w ne. refl;
-  });
-}
+write_zero = search rules
 
 pub refuse_one : Refused false 1 (pair_facts zero_has_written) (pair_facts one_was_refused)
-refuse_one = record {
-  barred = refl;
-  ended = record {
-    was = refl;
-    gone = refl;
-    only = only_one zero_has_written one_was_refused refl;
-    others = but_one (Spared (pair_facts zero_has_written) (pair_facts one_was_refused)) zero_has_written (λ e. record {
-      sets = record { reads = λ v. refl; writes = λ v. refl };
-      behind = refl;
-      no_read = λ v h. h;
-      no_write = λ v h. h;
-      fenced = λ l v h. h;
-    });
-  };
-}
+refuse_one = search rules
 
 pub commit_zero : Committed true 0 (pair_facts one_was_refused) (pair_facts nobody)
-commit_zero = record {
-  was = refl;
-  granted = refl;
-  gone = refl;
-  only = only_zero one_was_refused nobody refl;
-  others = but_zero (Passed 0 (pair_facts one_was_refused) (pair_facts nobody)) one_was_refused (λ e. absurd (cc));
-}
+commit_zero = search rules
 
 pub begin_again : Begun 1 (pair_facts nobody) (pair_facts one_began)
-begin_again = record {
-  was = refl;
-  active = refl;
-  behind = refl;
-  reads = λ v. refl;
-  writes = λ v. refl;
-  no_read = λ v e. absurd (cc);
-  no_write = λ v e. absurd (cc);
-  only = only_one nobody one_began refl;
-  others = but_one (Unchanged (pair_facts nobody) (pair_facts one_began)) nobody (λ e. absurd (cc));
-}
+begin_again = search rules
 
 pub read_one : HasRead 1 5 (pair_facts one_began) (pair_facts one_has_read)
-read_one = record {
-  was = refl;
-  granted = refl;
-  active = refl;
-  behind = refl;
-  own = λ e. absurd (cc);
-  shared = λ e. refl;
-  reads = λ w ne. ne_eqb w 5 ne;
-  writes = λ w. refl;
-  bars = record { no_read = λ v. refl; no_write = λ v. refl };
-  only = only_one one_began one_has_read refl;
-  others = but_one (Beside 5 (pair_facts one_began) (pair_facts one_has_read)) one_began (λ e. absurd (cc));
-}
+read_one = search rules
 
 pub read_again : HasRead 1 5 (pair_facts one_has_read) (pair_facts one_has_read)
-read_again = record {
-  was = refl;
-  granted = refl;
-  active = refl;
-  behind = refl;
-  own = λ e. refl;
-  shared = λ e. refl;
-  reads = λ w ne. refl;
-  writes = λ w. refl;
-  bars = record { no_read = λ v. refl; no_write = λ v. refl };
-  only = λ u ne. refl;
-  others = but_one (Beside 5 (pair_facts one_has_read) (pair_facts one_has_read)) one_has_read (λ e. absurd (cc));
-}
+read_again = search rules
 
 pub commit_one : Committed true 1 (pair_facts one_has_read) (pair_facts nobody)
-commit_one = record {
-  was = refl;
-  granted = refl;
-  gone = refl;
-  only = only_one one_has_read nobody refl;
-  others = but_one (Passed 1 (pair_facts one_has_read) (pair_facts nobody)) one_has_read (λ e. absurd (cc));
-}
+commit_one = search rules
