@@ -1,7 +1,7 @@
 -- The small policy of the example keeps the rules.
-use Rattle.std.proofs.Common.{◌≡◌, ℕ, zero, suc, ◌<◌, Bool, true, false, ◌&&◌, eqb, sym, refl, subst, lit<, rules}
+use Rattle.std.proofs.Common.{◌≡◌, ℕ, ◌<◌, Bool, true, false, ◌&&◌, eqb, sym, subst, lit<, rules}
 use Rattle.std.proofs.lemmas.Bool.{and_parts, eqb-true}
-use Rattle.policy.specs.Limits.{tasks, variables}
+use Rattle.policy.specs.Limits.{variables}
 use Rattle.policy.specs.Facts.{Proper}
 use Rattle.policy.specs.Moves.{Begun, HasRead, HasWritten, Committed, Refused}
 use Rattle.history.specs.Example.{Pair, pair_facts}
@@ -10,51 +10,7 @@ below : (x : Bool) (v : ℕ) → x && eqb v 5 ≡ true → v < variables
 below x v e = subst (λ (w : ℕ). w < variables) (sym (eqb-true v 5 (and_parts x (eqb v 5) e).1)) (lit< tt)
 
 pub pair_proper : (p : Pair) → Proper (pair_facts p)
-pair_proper p = record {
-  no_reads = no_reads;
-  no_writes = no_writes;
-  not_behind = λ t e. refl;
-  may_read_all = may_read_all;
-  may_write_all = λ t v e. refl;
-  task = task;
-  read_below = read_below;
-  written_below = written_below;
-  no_read_below = no_read_below;
-  no_write_below = λ t v e. absurd (cc);
-}
-  where
-    no_reads : (t v : ℕ) → (pair_facts p).active t ≡ false → (pair_facts p).reads t v ≡ false
-    no_reads zero v e = refl
-    no_reads (suc zero) v e = rw e
-    no_reads (suc (suc t)) v e = refl
-
-    no_writes : (t v : ℕ) → (pair_facts p).active t ≡ false → (pair_facts p).writes t v ≡ false
-    no_writes zero v e = rw e
-    no_writes (suc t) v e = refl
-
-    may_read_all : (t v : ℕ) → (pair_facts p).active t ≡ false → (pair_facts p).no_read t v ≡ false
-    may_read_all zero v e = refl
-    may_read_all (suc zero) v e = rw e
-    may_read_all (suc (suc t)) v e = refl
-
-    task : (t : ℕ) → (pair_facts p).active t ≡ true → t < tasks
-    task zero e = lit< tt
-    task (suc zero) e = lit< tt
-    task (suc (suc t)) e = absurd (cc)
-
-    read_below : (t v : ℕ) → (pair_facts p).reads t v ≡ true → v < variables
-    read_below zero v e = absurd (cc)
-    read_below (suc zero) v e = below (p.one_active && p.one_read) v e
-    read_below (suc (suc t)) v e = absurd (cc)
-
-    written_below : (t v : ℕ) → (pair_facts p).writes t v ≡ true → v < variables
-    written_below zero v e = below (p.zero_active && p.zero_wrote) v e
-    written_below (suc t) v e = absurd (cc)
-
-    no_read_below : (t v : ℕ) → (pair_facts p).no_read t v ≡ true → v < variables
-    no_read_below zero v e = absurd (cc)
-    no_read_below (suc zero) v e = below (p.one_active && (p.zero_active && p.zero_wrote)) v e
-    no_read_below (suc (suc t)) v e = absurd (cc)
+pair_proper p = search (rules, below)
 
 -- who is active, whether task 0 has written, whether task 1 has read
 abbrev pub pair : Bool → Bool → Bool → Bool → Pair

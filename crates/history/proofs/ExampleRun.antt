@@ -1,5 +1,5 @@
 -- The example run, step by step.
-use Rattle.std.proofs.Common.{◌≡◌, ℕ, zero, suc, Bool, true, false, cond, eqb, ◌≢◌, [], ◌∷◌, ℤ, pos, refl}
+use Rattle.std.proofs.Common.{◌≡◌, ℕ, Bool, true, false, cond, eqb, ◌≢◌, [], ◌∷◌, ℤ, pos, refl, rules}
 use Rattle.std.proofs.lemmas.Bool.{ne_eqb}
 use mathlib.Core.List.Memᴰ
 use Rattle.history.specs.Update.{at}
@@ -153,21 +153,7 @@ step_snapshot = record {
 }
 
 new_table : New pair_facts start
-new_table = record { fresh = fresh; stage = λ t. stage (eqb t 1) (eqb t 0); pending = λ t v. pending (eqb t 0) v; shared = λ v. refl }
-  where
-    fresh : (t : ℕ) → (pair_facts nobody).active t ≡ false
-    fresh zero = refl
-    fresh (suc zero) = refl
-    fresh (suc (suc t)) = refl
-
-    stage : (x y : Bool) → cond x idle (cond y idle idle) ≡ idle
-    stage true y = refl
-    stage false true = refl
-    stage false false = refl
-
-    pending : (x : Bool) (v : ℕ) → cond x zeros zeros v ≡ pos 0
-    pending true v = refl
-    pending false v = refl
+new_table = search rules
 
 story_runs : Leads pair_facts pair_after true start all_idle story
 story_runs =
