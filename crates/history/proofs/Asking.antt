@@ -1,5 +1,5 @@
 -- What a policy's answer to a fit call tells: whether the facts allow it, and which move was made.
-use Rattle.std.proofs.Common.{◌≡◌, ℕ, ◌<◌, Bool, true, false, Ok, Err, Result, sym, refl, ap, ◌∙◌, subst}
+use Rattle.std.proofs.Common.{◌≡◌, ℕ, ◌<◌, Bool, true, false, Ok, Err, Result, ap, ◌∙◌, subst, rules}
 use Rattle.std.proofs.lemmas.Bool.{lt-ltb}
 use Rattle.policy.specs.Limits.{tasks, variables}
 use Rattle.policy.specs.Facts.{Facts}
@@ -32,19 +32,8 @@ module _ {P : Type 0} (after : P → Move → P → Type 0) (done barred : Move)
 
   -- granted: the facts allowed it, and the move was made
   pub asked_granted : (x : Granted) → r ≡ Ok x → (may ≡ true) × after p done q
-  asked_granted x e = (go may (sym e ∙ fit_answer), moved_by (Ok x) e)
-    where
-      go : (b : Bool) → Ok x ≡ answer true b why → b ≡ true
-      go true h = refl
-      go false h = absurd (cc)
+  asked_granted x e = search rules
 
   -- refused: the facts didn't, the reason is the call's own, and the refusal was made
   pub asked_refused : (x : PolicyFault) → r ≡ Err x → (may ≡ false) × (why ≡ x) × Moved after done barred p q (Err why)
-  asked_refused x e = (d.0, d.1, moved_by (Err why) (e ∙ ap (λ (y : PolicyFault). Err y) (sym d.1)))
-    where
-      go : (b : Bool) → Err x ≡ answer true b why → (b ≡ false) × (why ≡ x)
-      go true h = absurd (cc)
-      go false h = (refl, cc)
-
-      d : (may ≡ false) × (why ≡ x)
-      d = go may (sym e ∙ fit_answer)
+  asked_refused x e = search rules

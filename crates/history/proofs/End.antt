@@ -1,6 +1,6 @@
 -- A transaction that ends without a commit: an abort, or a refusal of the policy.
-use Rattle.std.proofs.Common.{◌≡◌, ℕ, ◌<◌, true, false, ◌≢◌, ◌⊎◌, List, [], ◌∷◌, ℤ, sym, refl, ◌∙◌, subst, inl, inr, arith}
-use Rattle.std.proofs.lemmas.Bool.{cases_Bool, both_ways}
+use Rattle.std.proofs.Common.{◌≡◌, ℕ, ◌<◌, true, false, ◌≢◌, ◌⊎◌, List, [], ◌∷◌, ℤ, sym, refl, ◌∙◌, subst, inl, inr, arith, rules}
+use Rattle.std.proofs.lemmas.Bool.{both_ways}
 use mathlib.Core.List.{Memᴰ}
 use mathlib.Core.Option.{Option, none, some}
 use Rattle.policy.specs.Facts.{Facts}
@@ -11,7 +11,6 @@ use Rattle.history.specs.Serial.{if_committed, all_committed}
 use Rattle.history.specs.Law.{Listed, Rival}
 use Rattle.history.proofs.Logic.{at_same, at_other}
 use Rattle.history.proofs.Accesses.{pend_touches}
-use Rattle.history.proofs.Rules.{bars_spared}
 use Rattle.history.proofs.Views.{View, Quiet}
 use Rattle.history.proofs.GrantedReads.{BesideAll}
 use Rattle.history.proofs.Effects.{Aborts, BarsRead, BarsWrite, BarsCommit}
@@ -29,24 +28,10 @@ pub record Relieved (vs : List ℕ) (f g : Facts) (u : ℕ) : Type 0 where
   pub no_write_new : (w : ℕ) → g.no_write u w ≡ true → (f.no_write u w ≡ true) ⊎ Memᴰ w vs
 
 pub spared : {f g : Facts} {u : ℕ} → Spared f g u → Relieved [] f g u
-spared s = record {
-  reads = s.sets.reads;
-  writes = s.sets.writes;
-  behind = s.behind;
-  no_read_kept = bars_spared s;
-  no_read_new = λ w e. inl (s.no_read w e);
-  no_write_new = λ w e. inl (s.no_write w e);
-}
+spared s = search rules
 
 pub beside_spared : {vs : List ℕ} {f g h : Facts} {u : ℕ} → BesideAll vs f g u → Spared g h u → Relieved vs f h u
-beside_spared p s = record {
-  reads = λ w. s.sets.reads w ∙ p.reads w;
-  writes = λ w. s.sets.writes w ∙ p.writes w;
-  behind = s.behind ∙ p.behind;
-  no_read_kept = λ l w e. bars_spared s (p.behind ∙ l) w (p.no_read_kept w e);
-  no_read_new = λ w e. p.no_read_new w (s.no_read w e);
-  no_write_new = λ w e. p.no_write_new w (s.no_write w e);
-}
+beside_spared p s = search rules
 
 -- why T is refused, in the ledger before the refusal
 pub record Because (L : Ledger) (t : ℕ) (T : Transaction) (q : Option ℕ) : Type 0 where
@@ -156,10 +141,7 @@ module _ (t : ℕ) (a b : View) (L : Ledger) (order : List Transaction) (inv : I
   -- the reason of a refusal at v
   asked : (o : Active a L order t) (v : ℕ) (vs : List ℕ) (q : Option ℕ) (ps : List ℕ) → (a.facts.behind t ≡ false → Rival L t o.transaction.first (calls L) v)
       → policy_refused (some v) vs ≡ policy_refused q ps → Because L t o.transaction q
-  asked o v vs q ps r e = elim (cases_Bool (a.facts.behind t)) [
-    | inl h ↦ because_behind q (o.standing.behind h)
-    | inr h ↦ record { variable = v; wanted = inl (sym (same_asked e)); rival = r h }
-  ]
+  asked o v vs q ps r e = search rules
 
   pub bar_read_keeps : (v : ℕ) (vs : List ℕ) → BarsRead t v vs a b → Invariant b (note (ends t (policy_refused (some v) vs)) b.shared L) order
   bar_read_keeps v vs step =

@@ -1,6 +1,6 @@
 -- What the rules of a policy come to, for one task.
-use Rattle.std.proofs.Common.{◌≡◌, ℕ, Bool, true, false, not, ◌&&◌, ◌||◌, ◌⊎◌, sym, ◌∙◌, inl, inr}
-use Rattle.std.proofs.lemmas.Bool.{cases_Bool, or_parts, and_parts, not-true, not-false, both_ways}
+use Rattle.std.proofs.Common.{◌≡◌, ℕ, Bool, true, false, not, ◌&&◌, ◌||◌, ◌⊎◌, inl, inr, rules}
+use Rattle.std.proofs.lemmas.Bool.{cases_Bool, or_parts, and_parts, not-true, not-false}
 use Rattle.policy.proofs.SomeBelow.{some_below_all}
 use Rattle.policy.specs.Limits.{variables}
 use Rattle.policy.specs.Facts.{Facts, some_below, may_read, may_commit, Proper}
@@ -32,12 +32,7 @@ read_bar f t v may = not-false (f.no_read t v) (or_parts (f.writes t v) (not (f.
 
 -- the commit of a task that has written nothing puts nobody behind
 pub silent_behind : {t u : ℕ} {f g : Facts} → Passed t f g u → ((w : ℕ) → f.writes t w ≡ false) → g.behind u ≡ f.behind u
-silent_behind {t} {u} {f} {g} p silent = go (cases_Bool (f.behind u)) (cases_Bool (g.behind u))
-  where
-    go : (f.behind u ≡ true) ⊎ (f.behind u ≡ false) → (g.behind u ≡ true) ⊎ (g.behind u ≡ false) → g.behind u ≡ f.behind u
-    go (inl h) k = p.stays_behind h ∙ sym h
-    go (inr h) (inl k) = elim (p.only_so k) [ inl q ↦ k ∙ sym q | inr q ↦ absurd (both_ways _ (silent q.0) q.2) ]
-    go (inr h) (inr k) = k ∙ sym h
+silent_behind {t} {u} {f} {g} p silent = search rules
 
 -- The promise to a task that is behind, that its no-read set only grows, is used through these three alone.
 pub bars_kept : {t u : ℕ} {f g : Facts} → Passed t f g u → g.behind u ≡ true → (v : ℕ) → f.no_read u v ≡ true → g.no_read u v ≡ true
