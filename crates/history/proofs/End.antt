@@ -11,6 +11,7 @@ use Rattle.history.specs.Serial.{if_committed, all_committed}
 use Rattle.history.specs.Law.{Listed, Rival}
 use Rattle.history.proofs.Logic.{at_same, at_other}
 use Rattle.history.proofs.Accesses.{pend_touches}
+use Rattle.history.proofs.Rules.{bars_spared}
 use Rattle.history.proofs.Views.{View, Quiet}
 use Rattle.history.proofs.GrantedReads.{BesideAll}
 use Rattle.history.proofs.Effects.{Aborts, BarsRead, BarsWrite, BarsCommit}
@@ -28,10 +29,24 @@ pub record Relieved (vs : List ℕ) (f g : Facts) (u : ℕ) : Type 0 where
   pub no_write_new : (w : ℕ) → g.no_write u w ≡ true → (f.no_write u w ≡ true) ⊎ Memᴰ w vs
 
 pub spared : {f g : Facts} {u : ℕ} → Spared f g u → Relieved [] f g u
-spared s = search rules
+spared s = record {
+  reads = s.sets.reads;
+  writes = s.sets.writes;
+  behind = s.behind;
+  no_read_kept = bars_spared s;
+  no_read_new = λ w e. inl (s.no_read w e);
+  no_write_new = λ w e. inl (s.no_write w e);
+}
 
 pub beside_spared : {vs : List ℕ} {f g h : Facts} {u : ℕ} → BesideAll vs f g u → Spared g h u → Relieved vs f h u
-beside_spared p s = search rules
+beside_spared p s = record {
+  reads = λ w. s.sets.reads w ∙ p.reads w;
+  writes = λ w. s.sets.writes w ∙ p.writes w;
+  behind = s.behind ∙ p.behind;
+  no_read_kept = λ l w e. bars_spared s (p.behind ∙ l) w (p.no_read_kept w e);
+  no_read_new = λ w e. p.no_read_new w (s.no_read w e);
+  no_write_new = λ w e. p.no_write_new w (s.no_write w e);
+}
 
 -- why T is refused, in the ledger before the refusal
 pub record Because (L : Ledger) (t : ℕ) (T : Transaction) (q : Option ℕ) : Type 0 where

@@ -3,7 +3,7 @@ use Rattle.std.proofs.Common.{◌≡◌, ℕ, Bool, true, false, not, ◌&&◌, 
 use Rattle.std.proofs.lemmas.Bool.{cases_Bool, or_parts, and_parts, not-true, not-false}
 use Rattle.policy.proofs.SomeBelow.{some_below_all}
 use Rattle.policy.specs.Limits.{variables}
-use Rattle.policy.specs.Facts.{Facts, some_below, may_read, may_commit, Proper}
+use Rattle.policy.specs.Facts.{Facts, some_below, may_commit, Proper}
 use Rattle.policy.specs.Moves.{Passed, Spared}
 
 -- a task that is behind and may commit has written nothing
@@ -25,10 +25,6 @@ commit_silent strict f t proper may behind w = go (cases_Bool (f.writes t w))
 -- a task that may not commit is behind
 pub commit_behind : (strict : Bool) (f : Facts) (t : ℕ) → may_commit strict f t ≡ false → f.behind t ≡ true
 commit_behind strict f t may = (and_parts (f.behind t) (strict || some_below variables (f.writes t)) (not-false (f.behind t && (strict || some_below variables (f.writes t))) may)).0
-
--- a task that may not read is barred
-pub read_bar : (f : Facts) (t v : ℕ) → may_read f t v ≡ false → f.no_read t v ≡ true
-read_bar f t v may = not-false (f.no_read t v) (or_parts (f.writes t v) (not (f.no_read t v)) may).1
 
 -- the commit of a task that has written nothing puts nobody behind
 pub silent_behind : {t u : ℕ} {f g : Facts} → Passed t f g u → ((w : ℕ) → f.writes t w ≡ false) → g.behind u ≡ f.behind u
