@@ -1,5 +1,5 @@
 -- Runs built from the requests made of a policy, one by one, and how it answered.
-use Rattle.std.proofs.Common.{◌≡◌, true, List, [], ◌∷◌, ◌++◌, reverse, Ok, Err, Result, sym, refl, ap, ◌∙◌, subst}
+use Rattle.std.proofs.Common.{◌≡◌, true, List, [], ◌∷◌, ◌++◌, reverse, Ok, Err, Result, sym, refl, ap, ◌∙◌, subst, rules}
 use Rattle.std.proofs.lemmas.Bool.{and_parts}
 use mathlib.Core.Option.{Option, none, some}
 use Rattle.policy.specs.declared.PolicyFault.{PolicyFault}
@@ -48,11 +48,7 @@ told_moves done barred (Err CommitRefused) = barred ∷ []
 
 told_chain : {P : Type 0} (after : P → Move → P → Type 0) (done barred : Move) (p q : P) (r : Result Granted PolicyFault) → Moved after done barred p q r
     → Chain after (told_moves done barred r) p q
-told_chain after done barred p q (Ok g) h = (q, h, refl)
-told_chain after done barred p q (Err Unfit) h = h
-told_chain after done barred p q (Err (ReadBarred v)) h = (q, h, refl)
-told_chain after done barred p q (Err (WriteBarred v)) h = (q, h, refl)
-told_chain after done barred p q (Err CommitRefused) h = (q, h, refl)
+told_chain = search rules
 
 -- the request that a table makes for a call
 abbrev pub request_for : Call → Option Request

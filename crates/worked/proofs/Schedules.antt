@@ -1,5 +1,5 @@
 -- A schedule replayed line by line: if each reply is the answer at the state that the lines before it make, every run of its calls is answered so.
-use Rattle.std.proofs.Common.{◌≡◌, Bool, true, ◌&&◌, List, [], ◌∷◌, pos, sym, refl, ap, ◌∙◌, subst}
+use Rattle.std.proofs.Common.{◌≡◌, Bool, true, ◌&&◌, List, [], ◌∷◌, pos, sym, refl, ap, ◌∙◌, subst, rules}
 use Rattle.std.proofs.lemmas.Bool.{and_parts}
 use mathlib.Core.Path.{fun_ext}
 use Rattle.policy.specs.Facts.{Facts}
@@ -24,9 +24,7 @@ answer_of (the_value x) = value x
 answer_of (refusal n why) = refused why
 
 pub is_stated : (y : Reply) (r : Answer) → Is y r → r ≡ answer_of y
-is_stated ok r h = h
-is_stated (the_value x) r h = h
-is_stated (refusal n why) r h = h.0
+is_stated = search rules
 
 -- no call of the lines reads a list
 abbrev pub all_plain : List Line → Bool
