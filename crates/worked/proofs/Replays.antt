@@ -56,9 +56,6 @@ no_first_moves = search rules
 pub no_count : (c : Call) (see : ℕ → ℤ) (k : ℕ) → plain c ≡ true → granted see k c ≡ granted see 0 c
 no_count = search rules
 
-one_read : (t v : ℕ) (r : Answer) → length (granted_reads (read t v) r) ≤ 1
-one_read = search rules
-
 pub few_reads : (c : Call) (r : Answer) → plain c ≡ true → length (granted_reads c r) ≤ 1
 few_reads = search rules
 
