@@ -1,5 +1,5 @@
 -- A granted commit.
-use Rattle.std.proofs.Common.{◌≡◌, ℕ, ◌<◌, ◌≤◌, Bool, true, false, ◌≢◌, ◌⊎◌, List, [], ◌∷◌, ◌++◌, length, ℤ, sym, refl, ap, ◌∙◌, subst, inl, inr, append_assoc, append-nil, arith}
+use Rattle.std.proofs.Common.{◌≡◌, ℕ, ◌<◌, ◌≤◌, Bool, true, false, ◌≢◌, ◌⊎◌, List, [], ◌∷◌, ◌++◌, length, ℤ, sym, refl, ap, ◌∙◌, subst, inl, inr, append_assoc, append-nil, arith, rules}
 use Rattle.std.proofs.lemmas.Bool.{cases_Bool, both_ways}
 use mathlib.Core.Path.{fun_ext}
 use mathlib.Core.List.Memᴰ
@@ -52,11 +52,7 @@ module _ (strict : Bool) (t : ℕ) (a b : View) (L : Ledger) (order : List Trans
   unpended v e = marked_none (pend nothing_pending T.accesses v) (a.facts.writes t v) (a.pending t v) (mine.standing.pending v) e
 
   settled_t : Settled L' T'
-  settled_t = record {
-    begun = let k = mine.standing.begun in omega arith;
-    moment = end_moment t b.shared L committed T mine.standing.held mine.standing.lasted;
-    rival = λ asked passed e. absurd (cc);
-  }
+  settled_t = search (rules, end_moment)
 
   all_settled : (U : Transaction) → Memᴰ U (T' ∷ L.ended) → Settled L' U
   all_settled U (Memᴰ.head e) = subst (λ (X : Transaction). Settled L' X) (sym e) settled_t

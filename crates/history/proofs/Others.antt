@@ -83,21 +83,7 @@ module _ {a b : View} {L L' : Ledger} {order order' : List Transaction} {u : ℕ
       → ((w : ℕ) → b.pending u w ≡ a.pending u w)
       → (b.facts.behind u ≡ false → UpToDate b L' u T) → (b.facts.behind u ≡ true → Behind b L' order' u T)
       → Standing a L order u T → Standing b L' order' u T
-  keep_standing reads writes pending f h s =
-      let k = g.longer in
-      record {
-        task = s.task;
-        fate = s.fate;
-        begun = omega (arith, s.begun);
-        lasted = omega (arith, s.lasted);
-        within = within_more (calls L) (calls L') T.accesses k s.within;
-        pending = λ v. rw (writes v, pending v) (s.pending v);
-        reads = λ v e. s.reads v (sym (reads v) ∙ e);
-        answers = λ v x r. reads v ∙ s.answers v x r;
-        held = keep_held g s.held;
-        up_to_date = f;
-        behind = h;
-      }
+  keep_standing reads writes pending f h s = search (rules, within_more, keep_held)
 
 -- what an access, a begin or an end without a commit leaves of another
 pub record Undisturbed (a b : View) (L' : Ledger) (u first : ℕ) : Type 0 where

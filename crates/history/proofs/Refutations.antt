@@ -1,5 +1,5 @@
 -- The refuted histories, by computation.
-use Rattle.std.proofs.Common.{◌≡◌, ℕ, Bool, true, false, cond, eqb, ◌⊎◌, List, [], ◌∷◌, ℤ, pos, sym, refl, ap, ◌∙◌, subst, inl, inr, lit<}
+use Rattle.std.proofs.Common.{◌≡◌, ℕ, Bool, true, false, cond, eqb, ◌⊎◌, List, [], ◌∷◌, ℤ, pos, sym, refl, ap, ◌∙◌, subst, inl, inr, lit<, rules}
 use mathlib.Core.List.{Memᴰ, Permᴰ}
 use mathlib.Core.Option.{Option, none, some}
 use Rattle.history.specs.Steps.{zeros}
@@ -91,13 +91,4 @@ lonely_unrivalled h = go h.rival.lasts
     go (inr e) = no_some (none_there (some (begun 0 0)) (eqb h.rival.rival.task 0)) e
 
 pub refuted : Refuted
-refuted = record {
-  stale_unordered = stale_unordered;
-  unshared_unordered = unshared_unordered;
-  is_dirty = refl;
-  dirty_momentless = dirty_momentless;
-  is_torn = refl;
-  torn_momentless = torn_momentless;
-  is_lonely = refl;
-  lonely_unrivalled = lonely_unrivalled;
-}
+refuted = search (rules, stale_unordered, unshared_unordered, dirty_momentless, torn_momentless, lonely_unrivalled)

@@ -1,5 +1,5 @@
 -- The law, from the invariant, over any run.
-use Rattle.std.proofs.Common.{◌≡◌, ℕ, Bool, true, false, ◌⊎◌, List, [], ℤ, sym, refl, ap, subst, inl, inr, arith}
+use Rattle.std.proofs.Common.{◌≡◌, ℕ, Bool, true, false, ◌⊎◌, List, [], ℤ, sym, refl, ap, subst, inl, inr, arith, rules}
 use Rattle.std.proofs.lemmas.Bool.{cases_Bool, both_ways}
 use mathlib.Core.Path.{fun_ext}
 use mathlib.Core.List.Permᴰ
@@ -8,7 +8,6 @@ use Rattle.policy.specs.Facts.{Facts, Proper}
 use Rattle.policy.specs.Moves.{Move, Keeps}
 use Rattle.history.specs.Steps.{State}
 use Rattle.history.specs.Transactions.{unended, Transaction, Ledger, History, new_ledger, read_off}
-use Rattle.history.specs.Alone.{nothing_pending}
 use Rattle.history.specs.Law.{OneMoment, Lawful}
 use Rattle.history.specs.Runs.{UnrefusedAlone, Sound, New, Leads, none_yet, then, LawStands, StaysSound}
 use Rattle.history.proofs.Logic.{no_some}
@@ -20,14 +19,7 @@ use Rattle.history.proofs.Keeping.{step_keeps}
 use Rattle.history.proofs.Soundness.{new_sound, step_sound}
 
 held_moment : {L : Ledger} {T : Transaction} → Held L T → OneMoment L T
-held_moment {L} {T} h = record {
-  moment = h.moment;
-  values = h.values;
-  stood = h.stood;
-  since = h.since;
-  until = h.until;
-  agree = λ v x r. exact_answered h.values nothing_pending T.accesses v x h.exact r;
-}
+held_moment {L} {T} h = search (rules, exact_answered)
 
 pub invariant_lawful : (a : View) (h : History) (order : List Transaction) → Invariant a (read_off h) order → Lawful h a.shared
 invariant_lawful a h order inv = record {
