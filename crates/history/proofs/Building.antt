@@ -1,5 +1,5 @@
 -- Steps built from what a table knows of its call.
-use Rattle.std.proofs.Common.{◌≡◌, ℕ, suc, ◌+◌, Bool, true, false, ◌≢◌, List, [], ◌∷◌, ◌++◌, map, length, ℤ, sym, refl, ap, subst, add-zero, arith}
+use Rattle.std.proofs.Common.{◌≡◌, ℕ, suc, ◌+◌, Bool, true, false, ◌≢◌, List, [], ◌∷◌, ◌++◌, map, length, sym, refl, subst, add-zero, arith}
 use mathlib.Core.Option.{none, some}
 use Rattle.policy.specs.Facts.{Facts, may_read, may_commit}
 use Rattle.policy.specs.Moves.{Move, Begun}
@@ -8,7 +8,6 @@ use Rattle.history.specs.Calls.{Call, task, listed, Barred, read_barred, by_poli
 use Rattle.history.specs.Answers.{first_barred, wrong, untimely, barred, granted, checked}
 use Rattle.history.specs.Steps.{State, Chain, ReadsFor, none_made, Step, answer, sees, first_moves, granted_reads, last_moves, stage_after, pending_after, shared_after}
 use Rattle.history.proofs.GrantedReads.{ReadAll}
-use Rattle.history.proofs.Outcomes.{Unasked}
 
 -- granted reads, and one more
 pub reads_more : {P : Type 0} (after : P → Move → P → Type 0) (t : ℕ) (vs : List ℕ) (v : ℕ) (p q r : P) → Chain after (map (reads_variable t) vs) p q
@@ -36,25 +35,6 @@ pub snapshot_may_commit : (strict : Bool) {t : ℕ} {vs : List ℕ} {f g h : Fac
 snapshot_may_commit strict b r = rw (r.behind, b.behind)
 
 module _ {P : Type 0} (facts : P → Facts) (after : P → Move → P → Type 0) (strict : Bool) (c : Call) (a : State P) (r : Answer) where
-  -- a call that the policy isn't asked about, and that changes nothing
-  pub unasked_step : Unasked c (a.stage (task c)) r → r ≡ answer facts strict c a a.policy 0
-      → a.stage (task c) ≡ stage_after c r (a.stage (task c)) → Step facts after strict c a r a
-  unasked_step u answered stage = record {
-    opened = a.policy;
-    between = a.policy;
-    reads = [];
-    answered = answered;
-    opening = subst (λ (ms : List Move). Chain after ms a.policy a.policy) (sym u.first) refl;
-    reads_made = subst (λ (vs : List ℕ). ReadsFor vs []) (sym u.reads) none_made;
-    reading = refl;
-    closing = subst (λ (ms : List Move). Chain after ms a.policy a.policy) (sym u.last) refl;
-    stage = stage;
-    pending = λ v. ap (λ (p : ℕ → ℤ). p v) (sym (u.pending (a.pending (task c))));
-    shared = λ v. ap (λ (s : ℕ → ℤ). s v) (sym (u.shared (sees facts c a a.policy) a.shared));
-    other_stages = λ w ne. refl;
-    other_pending = λ w ne v. refl;
-  }
-
   -- a call that makes some last moves, and no begin or granted read before them
   pub moved_step : (b : State P) → r ≡ answer facts strict c a a.policy 0 → first_moves c r ≡ [] → granted_reads c r ≡ []
       → Chain after (last_moves c (a.stage (task c)) r) a.policy b.policy
