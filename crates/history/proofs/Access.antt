@@ -1,5 +1,6 @@
 -- Granted reads, collects and writes.
 use Rattle.std.proofs.Common.{◌≡◌, ℕ, ◌<◌, true, false, cond, ◌≢◌, ◌⊎◌, List, [], ◌∷◌, ◌++◌, map, ℤ, sym, refl, ap, ◌∙◌, subst, inl, inr, arith}
+use Rattle.std.proofs.lemmas.Bool.{cases_Bool, both_ways}
 use mathlib.Core.Path.{fun_ext}
 use mathlib.Core.List.Memᴰ
 use mathlib.Core.List.{Memᴰ}
@@ -10,7 +11,7 @@ use Rattle.history.specs.Transactions.{Access, put, Transaction, Ledger, calls, 
 use Rattle.history.specs.Alone.{nothing_pending, pend, seen, Exact, Answered}
 use Rattle.history.specs.Serial.{replay}
 use Rattle.history.specs.Law.{just, earlier, Rival}
-use Rattle.history.proofs.Logic.{truth, not_both, at_same, at_other, at_elim, marked_value, marked_none, marked_off}
+use Rattle.history.proofs.Logic.{at_same, at_other, at_elim, marked_value, marked_none, marked_off}
 use Rattle.history.proofs.Accesses.{Within, within-++, within_more, within_gots, SomeTouches, exact-++, exact_gots, pend-++, pend_gots, answered-++, answered_left, answered_right, gots_answered, answered_gots, gots_touches}
 use Rattle.history.proofs.Orders.{replay-++, replay_kept}
 use Rattle.history.proofs.Views.{View, sight, Quiet}
@@ -121,7 +122,7 @@ module _ (t : ℕ) (ds : List Access) (vs : List ℕ) (a b : View) (L : Ledger) 
         pending = h.pending;
         reads = h.reads;
         answers = h.answers;
-        held = held (truth (a.facts.behind t));
+        held = held (cases_Bool (a.facts.behind t));
         up_to_date = λ l. let f : UpToDate a L t T = s.up_to_date (sym h.behind ∙ l) in record {
           exact = subst (λ (r : ℕ → ℤ). Exact r nothing_pending (T.accesses ++ ds)) (sym same_shared) (exact_last (sym h.behind ∙ l));
           no_read = λ v e. keep_rival grows (unended_all inv) s.begun (f.no_read v (sym (h.no_read v) ∙ e));
@@ -147,7 +148,7 @@ module _ (t : ℕ) (ds : List Access) (vs : List ℕ) (a b : View) (L : Ledger) 
   goes_on_keeps = subst (λ (X : Ledger). Invariant b X order) (sym (adds_is t b.shared L ds T o.is))
       (same_order inv grows refl h.quiet.shared refl
       (all_active b L' order t inv h.only others each (λ l. record { transaction = T'; is = at_same L.current t (some T'); standing = standing }))
-      (all_idle b L' order t inv h.only others (λ l. absurd (not_both h.active l)))
+      (all_idle b L' order t inv h.only others (λ l. absurd (both_ways _ l h.active)))
       (λ U m. settled_grows grows (unended_all inv) (inv.settled U m)))
 
 module _ (t : ℕ) (vs : List ℕ) (a b : View) (L : Ledger) (order : List Transaction) (inv : Invariant a L order) (step : Reads t vs a b) where

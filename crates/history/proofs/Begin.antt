@@ -1,44 +1,22 @@
 -- A granted begin, and a call that adds nothing.
-use Rattle.std.proofs.Common.{◌≡◌, ℕ, true, ◌≢◌, ◌⊎◌, List, sym, refl, ap, ◌∙◌, subst, inl, inr, arith}
+use Rattle.std.proofs.Common.{◌≡◌, ℕ, true, ◌≢◌, List, sym, refl, ap, ◌∙◌, inl, arith, rules}
+use Rattle.std.proofs.lemmas.Bool.{both_ways}
 use mathlib.Core.Option.{some}
 use Rattle.policy.specs.Facts.{Facts, Touched as Taken}
 use Rattle.policy.specs.Moves.{Unchanged}
 use Rattle.history.specs.Transactions.{Transaction, Ledger, calls, note, nothing, opens, begun}
-use Rattle.history.specs.Alone.{nothing_pending, pend}
-use Rattle.history.specs.Law.{just, HadTouched, Rival}
-use Rattle.history.proofs.Logic.{not_both, no_some, at_same, at_other, marked_some}
+use Rattle.history.specs.Law.{just, Rival}
+use Rattle.history.proofs.Logic.{at_same, at_other}
 use Rattle.history.proofs.Accesses.{answered_touches, pend_touches}
 use Rattle.history.proofs.Views.{View}
 use Rattle.history.proofs.Effects.{Idles, Begins}
-use Rattle.history.proofs.Invariant.{Standing, Active, Invariant}
+use Rattle.history.proofs.Invariant.{Standing, Invariant}
 use Rattle.history.proofs.Ledgers.{Grows, rival_later, rival_grows, settled_grows, opens_grows, nothing_grows}
 use Rattle.history.proofs.Others.{unended_all, stays, undisturbed_standing, all_active, all_idle, same_order}
 
 -- what an active task of the policy has touched, its transaction has
 pub taken_rival : {a : View} {L : Ledger} {order : List Transaction} → Invariant a L order → (t first w : ℕ) → Taken a.facts t w → Rival L t first (calls L) w
-taken_rival {a} {L} {order} inv t first w h = record {
-  rival = U;
-  other = λ q. h.other (sym s.task ∙ q);
-  lasts = inr (subst (λ (k : ℕ). L.current k ≡ some U) (sym s.task) o.is);
-  began = s.begun;
-  touched = go h.touched;
-}
-  where
-    o : Active a L order h.by
-    o = inv.active h.by h.active
-
-    U : Transaction
-    U = o.transaction
-
-    s : Standing a L order h.by U
-    s = o.standing
-
-    go : (a.facts.reads h.by w ≡ true) ⊎ (a.facts.writes h.by w ≡ true) → HadTouched U w (calls L)
-    go (inl r) = let q = s.reads w r in inl (answered_touches (calls L) nothing_pending U.accesses w q.0 s.within q.1)
-    go (inr r) = elim (pend_touches (calls L) nothing_pending U.accesses w s.within) [
-      | inl q ↦ absurd (no_some q (marked_some (pend nothing_pending U.accesses w) (a.facts.writes h.by w) (a.pending h.by w) (s.pending w) r))
-      | inr q ↦ inl q
-    ]
+taken_rival {a} {L} {order} inv t first w h = search (rules, answered_touches, pend_touches)
 
 module _ (t : ℕ) (a b : View) (L : Ledger) (order : List Transaction) (inv : Invariant a L order) (step : Begins t a b) where
   -- the new transaction
@@ -80,7 +58,7 @@ module _ (t : ℕ) (a b : View) (L : Ledger) (order : List Transaction) (inv : I
     lasted = omega arith;
     within = tt;
     pending = λ v. rw (step.rule.writes v) refl;
-    reads = λ v e. absurd (not_both e (step.rule.reads v));
+    reads = λ v e. absurd (both_ways _ (step.rule.reads v) e);
     answers = λ v x r. elim r [ ];
     held = record { moment = calls L; values = b.shared; stood = just; since = omega arith; until = omega arith; exact = tt };
     up_to_date = λ l. record {
@@ -88,13 +66,13 @@ module _ (t : ℕ) (a b : View) (L : Ledger) (order : List Transaction) (inv : I
       no_read = λ v e. rival_n v (step.rule.no_read v e);
       no_write = λ v e. rival_n v (step.rule.no_write v e);
     };
-    behind = λ l. absurd (not_both l step.rule.behind);
+    behind = λ l. absurd (both_ways _ step.rule.behind l);
   }
 
   pub begin_keeps : Invariant b L' order
   begin_keeps = same_order inv grows refl step.quiet.shared refl
       (all_active b L' order t inv step.rule.only others each (λ l. record { transaction = N; is = at_same L.current t (some N); standing = standing }))
-      (all_idle b L' order t inv step.rule.only others (λ l. absurd (not_both step.rule.active l)))
+      (all_idle b L' order t inv step.rule.only others (λ l. absurd (both_ways _ l step.rule.active)))
       (λ U m. settled_grows grows (unended_all inv) (inv.settled U m))
 
 module _ (a b : View) (L : Ledger) (order : List Transaction) (inv : Invariant a L order) (step : Idles a b) where

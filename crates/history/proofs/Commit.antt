@@ -1,5 +1,6 @@
 -- A granted commit.
-use Rattle.std.proofs.Common.{◌≡◌, ℕ, ◌<◌, ◌≤◌, Bool, true, false, ◌≢◌, ◌⊎◌, List, [], ◌∷◌, ◌++◌, length, ℤ, sym, refl, ap, ◌∙◌, subst, inl, inr, append_assoc, append-nil, arith}
+use Rattle.std.proofs.Common.{◌≡◌, ℕ, ◌<◌, ◌≤◌, Bool, true, false, ◌≢◌, ◌⊎◌, List, [], ◌∷◌, ◌++◌, length, ℤ, sym, refl, ap, ◌∙◌, subst, inl, inr, append_assoc, append-nil, arith, rules}
+use Rattle.std.proofs.lemmas.Bool.{cases_Bool, both_ways}
 use mathlib.Core.Path.{fun_ext}
 use mathlib.Core.List.Memᴰ
 use mathlib.Core.List.Permᴰ
@@ -11,9 +12,9 @@ use Rattle.history.specs.Transactions.{committed, Transaction, Ledger, calls, no
 use Rattle.history.specs.Alone.{nothing_pending, pend, Exact, run_alone}
 use Rattle.history.specs.Serial.{all_committed, replay, AllExact, InOrder}
 use Rattle.history.specs.Law.{Stood, just, earlier, Rival}
-use Rattle.history.proofs.Logic.{truth, not_both, no_some, contraposed, at_same, at_other, marked_value, marked_none, marked_some}
+use Rattle.history.proofs.Logic.{no_some, contraposed, at_same, at_other, marked_value, marked_none, marked_some}
 use Rattle.history.proofs.Accesses.{pend_touches, exact_agree}
-use Rattle.history.proofs.Orders.{replay-++, exact-order-++, replay_insert, exact_insert, Silent, mem-++, mem_skip, order_insert, Cuts, earlier as cut_earlier, later as cut_later, cuts}
+use Rattle.history.proofs.Orders.{replay-++, exact-order-++, replay_insert, exact_insert, Silent, mem_skip, order_insert, Cuts, earlier as cut_earlier, later as cut_later, cuts}
 use Rattle.history.proofs.Rules.{silent_behind, bars_kept, bars_gained}
 use Rattle.history.proofs.Views.{View}
 use Rattle.history.proofs.Effects.{Commits}
@@ -51,11 +52,7 @@ module _ (strict : Bool) (t : ℕ) (a b : View) (L : Ledger) (order : List Trans
   unpended v e = marked_none (pend nothing_pending T.accesses v) (a.facts.writes t v) (a.pending t v) (mine.standing.pending v) e
 
   settled_t : Settled L' T'
-  settled_t = record {
-    begun = let k = mine.standing.begun in omega arith;
-    moment = end_moment t b.shared L committed T mine.standing.held mine.standing.lasted;
-    rival = λ asked passed e. absurd (let z : ◌≡◌ {A = ℕ} 0 1 = cc in omega arith);
-  }
+  settled_t = search (rules, end_moment)
 
   all_settled : (U : Transaction) → Memᴰ U (T' ∷ L.ended) → Settled L' U
   all_settled U (Memᴰ.head e) = subst (λ (X : Transaction). Settled L' X) (sym e) settled_t
@@ -96,7 +93,7 @@ module _ (strict : Bool) (t : ℕ) (a b : View) (L : Ledger) (order : List Trans
     still_up_to_date u U ne p s l =
         let f : UpToDate a L u U = s.up_to_date (contraposed (a.facts.behind u) (b.facts.behind u) p.stays_behind l) in
         record {
-          exact = exact_agree a.shared b.shared nothing_pending U.accesses (λ v x r. unmoved v (s.answers v x r) (truth (a.facts.writes t v))) f.exact;
+          exact = exact_agree a.shared b.shared nothing_pending U.accesses (λ v x r. unmoved v (s.answers v x r) (cases_Bool (a.facts.writes t v))) f.exact;
           no_read = λ v e. elim ((p.near l).no_read v e) [
             | inl h ↦ keep_rival grows (unended_all inv) s.begun (f.no_read v h)
             | inr h ↦ rival_t u U.first v ne s.begun h
@@ -108,7 +105,7 @@ module _ (strict : Bool) (t : ℕ) (a b : View) (L : Ledger) (order : List Trans
         }
       where
         unmoved : (v : ℕ) → a.facts.reads u v ≡ true → (a.facts.writes t v ≡ true) ⊎ (a.facts.writes t v ≡ false) → b.shared v ≡ a.shared v
-        unmoved v r (inl w) = absurd (not_both (p.falls_behind v r w) l)
+        unmoved v r (inl w) = absurd (both_ways _ l (p.falls_behind v r w))
         unmoved v r (inr w) = step.shared v ∙ rw w refl
 
     -- one that T's commit puts behind
@@ -118,7 +115,7 @@ module _ (strict : Bool) (t : ℕ) (a b : View) (L : Ledger) (order : List Trans
         let f : UpToDate a L u U = s.up_to_date q in
         let m = newest L.moments a.shared U.first inv.latest s.begun in
         let w : (w : ℕ) × (a.facts.reads u w ≡ true) × (a.facts.writes t w ≡ true) =
-        elim (p.only_so l) [ inl h ↦ absurd (not_both h q) | inr h ↦ h ] in
+        elim (p.only_so l) [ inl h ↦ absurd (both_ways _ q h) | inr h ↦ h ] in
         record {
           pre = order;
           post = T' ∷ [];
@@ -142,7 +139,7 @@ module _ (strict : Bool) (t : ℕ) (a b : View) (L : Ledger) (order : List Trans
     each_last u U ne active s =
         let p : Passed t a.facts b.facts u = step.rule.others u ne active in
         keep_standing grows (unended_all inv) p.sets.reads p.sets.writes (step.pending u ne) (still_up_to_date u U ne p s)
-        (λ l. elim (truth (a.facts.behind u)) [
+        (λ l. elim (cases_Bool (a.facts.behind u)) [
           | inl h ↦ keep_behind grows (unended_all inv) s.begun (bars_kept p l) (append_shift b u U.first order T' (fences_t u p l) (λ k. omega (arith, s.begun))) (s.behind h)
           | inr h ↦ put_behind u U ne p s l h
         ])
@@ -160,9 +157,9 @@ module _ (strict : Bool) (t : ℕ) (a b : View) (L : Ledger) (order : List Trans
       ends = ends_last;
       in_order = order_insert order T' [] (λ U m k. omega (arith, inv.bounded U m)) (λ U m k. elim m [ ])
           (subst (λ (r : List Transaction). InOrder r) (sym (append-nil order)) inv.in_order);
-      bounded = λ U m. bounded_last U (mem-++ U order (T' ∷ []) m);
+      bounded = λ U m. bounded_last U (Memᴰ.append_cases order m);
       latest = refl;
-      active = all_active b L' order_last t inv step.rule.only others each_last (λ h. absurd (not_both h step.rule.gone));
+      active = all_active b L' order_last t inv step.rule.only others each_last (λ h. absurd (both_ways _ step.rule.gone h));
       idle = all_idle b L' order_last t inv step.rule.only others (λ h. at_same L.current t none);
       settled = all_settled;
     }
@@ -223,8 +220,8 @@ module _ (strict : Bool) (t : ℕ) (a b : View) (L : Ledger) (order : List Trans
           pending = step.pending u ne;
           behind = silent_behind p unwritten;
           no_read_kept = λ l. bars_kept p (p.stays_behind l);
-          no_read_new = λ l w e. elim ((p.near l).no_read w e) [ inl h ↦ inl h | inr h ↦ absurd (not_both h (unwritten w)) ];
-          no_write_new = λ l w e. elim ((p.near l).no_write w e) [ inl h ↦ inl h | inr h ↦ absurd (not_both h (unwritten w)) ];
+          no_read_new = λ l w e. elim ((p.near l).no_read w e) [ inl h ↦ inl h | inr h ↦ absurd (both_ways _ (unwritten w) h) ];
+          no_write_new = λ l w e. elim ((p.near l).no_write w e) [ inl h ↦ inl h | inr h ↦ absurd (both_ways _ (unwritten w) h) ];
         })
         s
 
@@ -243,13 +240,13 @@ module _ (strict : Bool) (t : ℕ) (a b : View) (L : Ledger) (order : List Trans
           place.recent (subst (λ (r : List Transaction). InOrder r) place.cut inv.in_order);
       bounded = λ U m. bounded_between U (mem_skip U T' pre post m);
       latest = refl;
-      active = all_active b L' order_between t inv step.rule.only others each_between (λ h. absurd (not_both h step.rule.gone));
+      active = all_active b L' order_between t inv step.rule.only others each_between (λ h. absurd (both_ways _ step.rule.gone h));
       idle = all_idle b L' order_between t inv step.rule.only others (λ h. at_same L.current t none);
       settled = all_settled;
     }
 
   pub commit_keeps : (next : List Transaction) × Invariant b (note (ends t committed) b.shared L) next
-  commit_keeps = go (truth (a.facts.behind t))
+  commit_keeps = go (cases_Bool (a.facts.behind t))
     where
       go : (a.facts.behind t ≡ true) ⊎ (a.facts.behind t ≡ false) → (next : List Transaction) × Invariant b (note (ends t committed) b.shared L) next
       go (inl h) = (order_between h, subst (λ (X : Ledger). Invariant b X (order_between h)) (sym (ends_is t b.shared L committed T mine.is)) (commit_between h))

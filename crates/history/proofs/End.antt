@@ -1,5 +1,6 @@
 -- A transaction that ends without a commit: an abort, or a refusal of the policy.
-use Rattle.std.proofs.Common.{◌≡◌, ℕ, ◌<◌, true, false, ◌≢◌, ◌⊎◌, List, [], ◌∷◌, ℤ, sym, refl, ◌∙◌, subst, inl, inr, arith}
+use Rattle.std.proofs.Common.{◌≡◌, ℕ, ◌<◌, true, false, ◌≢◌, ◌⊎◌, List, [], ◌∷◌, ℤ, sym, refl, ◌∙◌, subst, inl, inr, arith, rules}
+use Rattle.std.proofs.lemmas.Bool.{both_ways}
 use mathlib.Core.List.{Memᴰ}
 use mathlib.Core.Option.{Option, none, some}
 use Rattle.policy.specs.Facts.{Facts}
@@ -8,7 +9,7 @@ use Rattle.history.specs.Transactions.{Fate, aborted, policy_refused, Transactio
 use Rattle.history.specs.Alone.{nothing_pending, SharedAnswer}
 use Rattle.history.specs.Serial.{if_committed, all_committed}
 use Rattle.history.specs.Law.{Listed, Rival}
-use Rattle.history.proofs.Logic.{truth, not_both, at_same, at_other}
+use Rattle.history.proofs.Logic.{at_same, at_other}
 use Rattle.history.proofs.Accesses.{pend_touches}
 use Rattle.history.proofs.Rules.{bars_spared}
 use Rattle.history.proofs.Views.{View, Quiet}
@@ -128,7 +129,7 @@ module _ (t : ℕ) (z : Fate) (vs : List ℕ) (a b : View) (L : Ledger) (order :
   pub ends_keeps : Invariant b (note (ends t z) b.shared L) order
   ends_keeps = subst (λ (X : Ledger). Invariant b X order) (sym (ends_is t b.shared L z T o.is))
       (same_order inv grows (h.unshared T' (all_committed L.ended)) h.quiet.shared refl
-      (all_active b L' order t inv h.only others each (λ l. absurd (not_both l h.gone)))
+      (all_active b L' order t inv h.only others each (λ l. absurd (both_ways _ h.gone l)))
       (all_idle b L' order t inv h.only others (λ l. at_same L.current t none))
       all_settled)
 
@@ -149,16 +150,13 @@ module _ (t : ℕ) (a b : View) (L : Ledger) (order : List Transaction) (inv : I
     quiet = step.quiet;
     unshared = λ U Us. refl;
     listed = λ w m. elim m [ ];
-    because = λ q ps e. absurd (let n : ◌≡◌ {A = ℕ} 0 1 = cc in omega arith);
+    because = λ q ps e. absurd (cc);
   })
 
   -- the reason of a refusal at v
   asked : (o : Active a L order t) (v : ℕ) (vs : List ℕ) (q : Option ℕ) (ps : List ℕ) → (a.facts.behind t ≡ false → Rival L t o.transaction.first (calls L) v)
       → policy_refused (some v) vs ≡ policy_refused q ps → Because L t o.transaction q
-  asked o v vs q ps r e = elim (truth (a.facts.behind t)) [
-    | inl h ↦ because_behind q (o.standing.behind h)
-    | inr h ↦ record { variable = v; wanted = inl (sym (same_asked e)); rival = r h }
-  ]
+  asked o v vs q ps r e = search rules
 
   pub bar_read_keeps : (v : ℕ) (vs : List ℕ) → BarsRead t v vs a b → Invariant b (note (ends t (policy_refused (some v) vs)) b.shared L) order
   bar_read_keeps v vs step =

@@ -1,5 +1,6 @@
 -- The example run, step by step.
-use Rattle.std.proofs.Common.{◌≡◌, ℕ, zero, suc, Bool, true, false, cond, eqb, ◌≢◌, [], ◌∷◌, ℤ, pos, refl}
+use Rattle.std.proofs.Common.{◌≡◌, ℕ, Bool, true, false, cond, eqb, ◌≢◌, [], ◌∷◌, ℤ, pos, refl, rules}
+use Rattle.std.proofs.lemmas.Bool.{ne_eqb}
 use mathlib.Core.List.Memᴰ
 use Rattle.history.specs.Update.{at}
 use Rattle.history.specs.Calls.{Call, begin, read, write, collect, snapshot, commit, abort, Answer, done, value, values, refused, by_policy, read_barred, single}
@@ -8,7 +9,6 @@ use Rattle.history.specs.Steps.{State, zeros, Step, none_made, made, left_out}
 use Rattle.history.specs.Runs.{New, Leads, none_yet, then}
 use Rattle.history.specs.Refuted.{five}
 use Rattle.history.specs.Example.{Pair, pair_facts, pair_after, story, Example}
-use Rattle.history.proofs.Logic.{eqb_other}
 use Rattle.history.proofs.Building.{moved_step}
 use Rattle.history.proofs.Stands.{law}
 use Rattle.history.proofs.ExamplePolicy.{pair_proper, nobody, zero_began, both_began, zero_has_written, one_was_refused, one_began, one_has_read}
@@ -24,13 +24,13 @@ table p zero-stage one-stage pending shared = record {
 }
 
 same_but_zero : (x y o : Stage) (u : ℕ) → u ≢ 0 → at (at (λ t. idle) 0 x) 1 o u ≡ at (at (λ t. idle) 0 y) 1 o u
-same_but_zero x y o u ne = rw (eqb_other u 0 ne)
+same_but_zero x y o u ne = rw (ne_eqb u 0 ne)
 
 same_but_one : (z x y : Stage) (u : ℕ) → u ≢ 1 → at (at (λ t. idle) 0 z) 1 x u ≡ at (at (λ t. idle) 0 z) 1 y u
-same_but_one z x y u ne = rw (eqb_other u 1 ne)
+same_but_one z x y u ne = rw (ne_eqb u 1 ne)
 
 pending_but_zero : (p q : ℕ → ℤ) (u : ℕ) → u ≢ 0 → (v : ℕ) → at (λ t. zeros) 0 p u v ≡ at (λ t. zeros) 0 q u v
-pending_but_zero p q u ne v = rw (eqb_other u 0 ne)
+pending_but_zero p q u ne v = rw (ne_eqb u 0 ne)
 
 -- each call of the story, over the policy's one move
 abbrev Goes : Call → State Pair → Answer → State Pair → Type 0
@@ -153,21 +153,7 @@ step_snapshot = record {
 }
 
 new_table : New pair_facts start
-new_table = record { fresh = fresh; stage = λ t. stage (eqb t 1) (eqb t 0); pending = λ t v. pending (eqb t 0) v; shared = λ v. refl }
-  where
-    fresh : (t : ℕ) → (pair_facts nobody).active t ≡ false
-    fresh zero = refl
-    fresh (suc zero) = refl
-    fresh (suc (suc t)) = refl
-
-    stage : (x y : Bool) → cond x idle (cond y idle idle) ≡ idle
-    stage true y = refl
-    stage false true = refl
-    stage false false = refl
-
-    pending : (x : Bool) (v : ℕ) → cond x zeros zeros v ≡ pos 0
-    pending true v = refl
-    pending false v = refl
+new_table = search rules
 
 story_runs : Leads pair_facts pair_after true start all_idle story
 story_runs =

@@ -1,5 +1,6 @@
 -- Several granted reads of one task, one after another, as one change of the facts.
-use Rattle.std.proofs.Common.{◌≡◌, ℕ, ◌≤◌, Bool, true, false, not, ◌≢◌, ◌⊎◌, List, [], ◌∷◌, ◌++◌, map, length, sym, refl, ap, ◌∙◌, subst, inl, inr, arith, length-append}
+use Rattle.std.proofs.Common.{◌≡◌, ℕ, ◌≤◌, Bool, true, false, not, ◌≢◌, ◌⊎◌, List, [], ◌∷◌, ◌++◌, map, length, sym, ap, ◌∙◌, subst, inl, inr, arith, length-append, rules}
+use Rattle.std.proofs.lemmas.Bool.{cases_Bool, or_cases, not-true}
 use native.Mathlib.Decide.{ℕ_discrete}
 use mathlib.Core.List.Memᴰ
 use mathlib.Core.List.{Memᴰ}
@@ -7,7 +8,6 @@ use Rattle.policy.specs.Facts.{Facts}
 use Rattle.policy.specs.Moves.{Move, Only, Others, Beside, HasRead, Keeps}
 use Rattle.policy.specs.Moves.{read as reads_variable}
 use Rattle.history.specs.Steps.{ReadsFor, none_made, made, left_out, Chain}
-use Rattle.history.proofs.Logic.{truth, either_true, not_true}
 
 -- another active task u, after granted accesses to vs
 pub record BesideAll (vs : List ℕ) (f g : Facts) (u : ℕ) : Type 0 where
@@ -48,14 +48,7 @@ beside_one {v} {f} {g} {u} p = record {
     gain w (no q) x y h e = inl (sym (h q) ∙ e)
 
 beside_none : (f : Facts) (u : ℕ) → BesideAll [] f f u
-beside_none f u = record {
-  reads = λ w. refl;
-  writes = λ w. refl;
-  behind = refl;
-  no_read_kept = λ w e. e;
-  no_read_new = λ w e. inl e;
-  no_write_new = λ w e. inl e;
-}
+beside_none f u = search rules
 
 beside_more : {vs ws : List ℕ} {f g h : Facts} {u : ℕ} → BesideAll vs f g u → BesideAll ws g h u → BesideAll (vs ++ ws) f h u
 beside_more {vs} {ws} p q = record {
@@ -74,30 +67,17 @@ beside_more {vs} {ws} p q = record {
 }
 
 pub read_none : (t : ℕ) (f : Facts) → f.active t ≡ true → ReadAll t [] f f
-read_none t f l = record {
-  was = l;
-  granted = λ w m. elim m [ ];
-  active = l;
-  behind = refl;
-  reads_kept = λ w e. e;
-  reads_new = λ w m. elim m [ ];
-  reads_only = λ w e. inl e;
-  writes = λ w. refl;
-  no_read = λ w. refl;
-  no_write = λ w. refl;
-  only = λ u ne. refl;
-  others = λ u ne k. beside_none f u;
-}
+read_none t f l = search rules
 
 pub read_one : {t v : ℕ} {f g : Facts} → HasRead t v f g → ReadAll t (v ∷ []) f g
 read_one {t} {v} {f} {g} p = record {
   was = p.was;
-  granted = λ w m. subst (λ (x : ℕ). (f.writes t x ≡ true) ⊎ (f.no_read t x ≡ false)) (sym (the_one w m)) may;
+  granted = λ w m. subst (λ (x : ℕ). (f.writes t x ≡ true) ⊎ (f.no_read t x ≡ false)) (sym (Memᴰ.eq_of_singleton m)) may;
   active = p.active;
   behind = p.behind;
-  reads_kept = λ w e. kept w e (ℕ_discrete w v) (truth (f.writes t v));
-  reads_new = λ w m e. subst (λ (x : ℕ). g.reads t x ≡ true) (sym (the_one w m)) (p.shared (subst (λ (x : ℕ). f.writes t x ≡ false) (the_one w m) e));
-  reads_only = λ w e. news w e (ℕ_discrete w v) (truth (f.writes t v));
+  reads_kept = λ w e. kept w e (ℕ_discrete w v) (cases_Bool (f.writes t v));
+  reads_new = λ w m e. subst (λ (x : ℕ). g.reads t x ≡ true) (sym (Memᴰ.eq_of_singleton m)) (p.shared (subst (λ (x : ℕ). f.writes t x ≡ false) (Memᴰ.eq_of_singleton m) e));
+  reads_only = λ w e. news w e (ℕ_discrete w v) (cases_Bool (f.writes t v));
   writes = p.writes;
   no_read = p.bars.no_read;
   no_write = p.bars.no_write;
@@ -105,12 +85,8 @@ read_one {t} {v} {f} {g} p = record {
   others = λ u ne l. beside_one (p.others u ne l);
 }
   where
-    the_one : (w : ℕ) → Memᴰ w (v ∷ []) → w ≡ v
-    the_one w (Memᴰ.head e) = e
-    the_one w (Memᴰ.tail m) = elim m [ ]
-
     may : (f.writes t v ≡ true) ⊎ (f.no_read t v ≡ false)
-    may = elim (either_true (f.writes t v) (not (f.no_read t v)) p.granted) [ inl e ↦ inl e | inr e ↦ inr (not_true (f.no_read t v) e) ]
+    may = elim (or_cases (f.writes t v) (not (f.no_read t v)) p.granted) [ inl e ↦ inl e | inr e ↦ inr (not-true (f.no_read t v) e) ]
 
     kept : (w : ℕ) → f.reads t w ≡ true → Dec (w ≡ v) → (f.writes t v ≡ true) ⊎ (f.writes t v ≡ false) → g.reads t w ≡ true
     kept w e (no q) d = p.reads w q ∙ e
@@ -151,27 +127,7 @@ read_more {t} {vs} {ws} {f} {g} {h} p q = record {
 -- lists with the same variables are read alike
 pub read_same : {t : ℕ} {rs : List ℕ} (vs : List ℕ) {f g : Facts} → ((w : ℕ) → Memᴰ w vs → Memᴰ w rs) → ((w : ℕ) → Memᴰ w rs → Memᴰ w vs)
     → ReadAll t rs f g → ReadAll t vs f g
-read_same vs there back p = record {
-  was = p.was;
-  granted = λ w m. p.granted w (there w m);
-  active = p.active;
-  behind = p.behind;
-  reads_kept = p.reads_kept;
-  reads_new = λ w m. p.reads_new w (there w m);
-  reads_only = λ w e. elim (p.reads_only w e) [ inl k ↦ inl k | inr k ↦ inr (back w k.0, k.1) ];
-  writes = p.writes;
-  no_read = p.no_read;
-  no_write = p.no_write;
-  only = p.only;
-  others = λ u ne l. let q = p.others u ne l in record {
-    reads = q.reads;
-    writes = q.writes;
-    behind = q.behind;
-    no_read_kept = q.no_read_kept;
-    no_read_new = λ w e. elim (q.no_read_new w e) [ inl k ↦ inl k | inr m ↦ inr (back w m) ];
-    no_write_new = λ w e. elim (q.no_write_new w e) [ inl k ↦ inl k | inr m ↦ inr (back w m) ];
-  };
-}
+read_same vs there back p = search rules
 
 -- the reads made for a list are of its variables, of all of them, and no more than it is long
 pub made_covers : {vs rs : List ℕ} → ReadsFor vs rs → (w : ℕ) → Memᴰ w vs → Memᴰ w rs
@@ -179,11 +135,7 @@ made_covers none_made w m = m
 made_covers (made {vs = vs} {rs = rs} v r) w m =
     let c = made_covers r in elim (Memᴰ.append_cases vs m) [ inl k ↦ Memᴰ.append_left (v ∷ []) (c w k) | inr k ↦ Memᴰ.append_right rs k ]
 made_covers (left_out {vs = vs} {rs = rs} v i r) w m =
-    let c = made_covers r in elim (Memᴰ.append_cases vs m) [ inl k ↦ c w k | inr k ↦ the_one k ]
-  where
-    the_one : Memᴰ w (v ∷ []) → Memᴰ w rs
-    the_one (Memᴰ.head e) = subst (λ (x : ℕ). Memᴰ x rs) (sym e) i
-    the_one (Memᴰ.tail k) = elim k [ ]
+    let c = made_covers r in elim (Memᴰ.append_cases vs m) [ inl k ↦ c w k | inr k ↦ Memᴰ.cast (Memᴰ.eq_of_singleton k) i ]
 
 pub made_only : {vs rs : List ℕ} → ReadsFor vs rs → (w : ℕ) → Memᴰ w rs → Memᴰ w vs
 made_only none_made w m = m

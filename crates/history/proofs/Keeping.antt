@@ -1,5 +1,6 @@
 -- Every call keeps the invariant: each kind of call, by the check that decided its answer.
-use Rattle.std.proofs.Common.{◌≡◌, ℕ, Bool, true, false, List, [], ◌∷◌, map, take, ℤ, sym, refl, ap, ◌∙◌, subst}
+use Rattle.std.proofs.Common.{◌≡◌, ℕ, Bool, true, false, List, [], ◌∷◌, map, take, ℤ, sym, refl, ap, ◌∙◌, subst, rules}
+use Rattle.std.proofs.lemmas.Bool.{not-false, both_ways}
 use mathlib.Core.Option.{none, some}
 use Rattle.policy.specs.Facts.{Facts, may_read, may_write, may_commit, Proper}
 use Rattle.policy.specs.Moves.{Move, Begun, HasWritten, Ended, Refused, Committed, Keeps, read_refused, write_refused, commit_refused}
@@ -9,8 +10,8 @@ use Rattle.history.specs.Answers.{Stage, idle, active, broken, granted, must_not
 use Rattle.history.specs.Steps.{State, Chain, ReadsFor, Step, sees, abort_moves}
 use Rattle.history.specs.Transactions.{Addition, adds, ends, Transaction, Ledger, aborted, policy_refused, calls, gots, note, addition}
 use Rattle.history.specs.Runs.{in_transaction, Sound}
-use Rattle.history.proofs.Logic.{not_both, no_some, at_same, at_other, not_false}
-use Rattle.history.proofs.Rules.{commit_silent, commit_behind, read_bar}
+use Rattle.history.proofs.Logic.{no_some, at_same, at_other}
+use Rattle.history.proofs.Rules.{commit_silent, commit_behind}
 use Rattle.history.proofs.Views.{view, sight, Quiet}
 use Rattle.history.proofs.GrantedReads.{ReadAll, made_reads}
 use Rattle.history.proofs.Invariant.{Invariant}
@@ -26,9 +27,7 @@ module _ {P : Type 0} (facts : P → Facts) (after : P → Move → P → Type 0
     (keeps : (p q : P) (m : Move) → after p m q → Keeps strict m (facts p) (facts q)) where
   -- what a refused read comes to
   ended_by_read : (t v : ℕ) (p q : P) → Chain after (read_refused t v ∷ []) p q → ((facts p).no_read t v ≡ true) × Ended t (facts p) (facts q)
-  ended_by_read t v p q c =
-      let h : Refused (may_read (facts p) t v) t (facts p) (facts q) = keeps p q (read_refused t v) (one_move facts after strict (read_refused t v) p q c) in
-      (read_bar (facts p) t v h.barred, h.ended)
+  ended_by_read t v p q c = search rules
 
 module _ {P : Type 0} (facts : P → Facts) (after : P → Move → P → Type 0) (strict : Bool)
     (keeps : (p q : P) (m : Move) → after p m q → Keeps strict m (facts p) (facts q)) (proper : (p : P) → Proper (facts p))
@@ -133,7 +132,7 @@ module _ {P : Type 0} (facts : P → Facts) (after : P → Move → P → Type 0
       keeps a.policy b.policy (write_refused t v) (one_move facts after strict (write_refused t v) a.policy b.policy (last_alone facts after strict s' refl refl)) in (
         order,
         bar_write_keeps t (view facts a) (view facts b) L order inv v (record {
-          barred = not_false ((facts a.policy).no_write t v) h.barred;
+          barred = not-false ((facts a.policy).no_write t v) h.barred;
           rule = h.ended;
           quiet = record { shared = s'.shared; pending = s'.other_pending };
         }),
@@ -200,7 +199,7 @@ module _ {P : Type 0} (facts : P → Facts) (after : P → Move → P → Type 0
                 (idle_keeps (view facts a) (view facts b) L order inv (record {
                   facts = ap facts c;
                   shared = s'.shared;
-                  pending = λ u l v. s'.other_pending u (λ q. not_both (subst (λ (w : ℕ). (facts a.policy).active w ≡ true) q l) out) v;
+                  pending = λ u l v. s'.other_pending u (λ q. both_ways _ out (subst (λ (w : ℕ). (facts a.policy).active w ≡ true) q l)) v;
                 })),
           )
 

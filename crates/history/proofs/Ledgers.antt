@@ -1,7 +1,6 @@
 -- A ledger only grows: whatever is known of an ended transaction, a moment or a rival stays known.
-use Rattle.std.proofs.Common.{◌≡◌, ℕ, ◌<◌, ◌≤◌, ◌⊎◌, List, ◌∷◌, length, ℤ, sym, refl, ap, ◌∙◌, subst, inl, inr, arith}
+use Rattle.std.proofs.Common.{◌≡◌, ℕ, ◌<◌, ◌≤◌, ◌⊎◌, List, ◌∷◌, length, ℤ, sym, refl, ap, ◌∙◌, subst, inl, inr, arith, rules}
 use native.Mathlib.Decide.{ℕ_discrete}
-use mathlib.Core.Path.{fun_ext}
 use mathlib.Core.List.Memᴰ
 use mathlib.Core.List.{Memᴰ}
 use mathlib.Core.Option.{Option, none, some}
@@ -9,7 +8,7 @@ use Rattle.history.specs.Update.{at}
 use Rattle.history.specs.Transactions.{Access, got, put, Fate, unended, Transaction, Ledger, calls, nothing, opens, adds, ends, whole, note, longer, over_with, grown, closed}
 use Rattle.history.specs.Alone.{Touches}
 use Rattle.history.specs.Law.{Stood, just, earlier, OneMoment, HadTouched, Listed, Rival}
-use Rattle.history.proofs.Logic.{at_same, at_other, at_elim, no_some}
+use Rattle.history.proofs.Logic.{at_same, at_other, no_some}
 use Rattle.history.proofs.Invariant.{Settled}
 
 pub stood_below : {ss : List (ℕ → ℤ)} {i : ℕ} {s : ℕ → ℤ} → Stood ss i s → i < length ss
@@ -39,18 +38,8 @@ pub touches_later : (k l v : ℕ) (d : Access) → k ≤ l → Touches k v d →
 touches_later k l v (got n w y) h r = (r.0, omega arith)
 touches_later k l v (put n w y) h r = (r.0, omega arith)
 
-pub touched_later : (T : Transaction) (v k l : ℕ) → k ≤ l → HadTouched T v k → HadTouched T v l
-touched_later T v k l h (inl r) = inl (r.0, r.1, touches_later k l v r.0 h r.2)
-touched_later T v k l h (inr r) = inr (r.0, omega arith)
-
 pub rival_later : {L : Ledger} {t first k v : ℕ} (l : ℕ) → k ≤ l → Rival L t first k v → Rival L t first l v
-rival_later {L} {t} {first} {k} {v} l h r = record {
-  rival = r.rival;
-  other = r.other;
-  lasts = r.lasts;
-  began = omega arith;
-  touched = touched_later r.rival v k l h r.touched;
-}
+rival_later {L} {t} {first} {k} {v} l h r = search rules
 
 pub rival_grows : {L L' : Ledger} {t first k v : ℕ} → Grows L L' → AllUnended L → first ≤ calls L → Rival L t first k v → Rival L' t first k v
 rival_grows {L} {L'} {t} {first} {k} {v} g all h r = go r.lasts
@@ -71,14 +60,7 @@ rival_grows {L} {L'} {t} {first} {k} {v} g all h r = go r.lasts
         }
 
 pub moment_grows : {L L' : Ledger} {T : Transaction} → Grows L L' → OneMoment L T → OneMoment L' T
-moment_grows g h = record {
-  moment = h.moment;
-  values = h.values;
-  stood = g.moments h.moment h.values h.stood;
-  since = h.since;
-  until = h.until;
-  agree = h.agree;
-}
+moment_grows g h = search rules
 
 pub settled_grows : {L L' : Ledger} {T : Transaction} → Grows L L' → AllUnended L → Settled L T → Settled L' T
 settled_grows {L} {L'} {T} g all h = record {
@@ -204,11 +186,4 @@ module _ (t : ℕ) (s : ℕ → ℤ) (L : Ledger) where
 
   -- the end of a task that has no transaction adds nothing
   pub ends_nothing : (z : Fate) → L.current t ≡ none → note (ends t z) s L ≡ note nothing s L
-  ends_nothing z e = λ i. record {
-    ended = closed z (calls L) (e i) L.ended;
-    current = fun_ext {f = at L.current t none} {g = L.current} same i;
-    moments = s ∷ L.moments;
-  }
-    where
-      same : (u : ℕ) → at L.current t none u ≡ L.current u
-      same u = at_elim (λ (o : Option Transaction). o ≡ L.current u) L.current t none u (λ q. sym (ap L.current q ∙ e)) (λ q. refl)
+  ends_nothing z e = search rules

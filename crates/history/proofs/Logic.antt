@@ -1,66 +1,21 @@
 -- Truth values, options and changed functions: what every proof here uses.
-use Rattle.std.proofs.Common.{◌≡◌, ℕ, Bool, true, false, cond, not, ◌&&◌, ◌||◌, T, eqb, ◌≢◌, ◌⊎◌, sym, refl, subst, inl, inr, arith, eqb→eq}
+use Rattle.std.proofs.Common.{◌≡◌, ℕ, Bool, true, false, cond, ◌≢◌, sym, refl, subst}
+use Rattle.std.proofs.lemmas.Bool.{both_ways, eq-eqb, ne_eqb, false_from_ne_true}
 use native.Mathlib.Decide.{ℕ_discrete}
 use mathlib.Core.Option.{Option, none, some, get_or}
-use lib.Dec.{eqb_refl}
 use Rattle.history.specs.Update.{at}
 
-pub truth : (b : Bool) → (b ≡ true) ⊎ (b ≡ false)
-truth true = inl refl
-truth false = inr refl
-
-pub not_both : {b : Bool} → b ≡ true → b ≡ false → ⊥
-not_both p q = let z : ◌≡◌ {A = ℕ} 0 1 = cc in omega arith
-
 pub no_some {ℓ} : {A : Type ℓ} {o : Option A} {x : A} → o ≡ none → o ≡ some x → ⊥
-no_some p q = let z : ◌≡◌ {A = ℕ} 0 1 = cc in omega arith
+no_some p q = cc
 
 pub contraposed : (x y : Bool) → (x ≡ true → y ≡ true) → y ≡ false → x ≡ false
-contraposed true y h e = absurd (not_both (h refl) e)
-contraposed false y h e = refl
-
-pub either_true : (x y : Bool) → x || y ≡ true → (x ≡ true) ⊎ (y ≡ true)
-either_true true y h = inl refl
-either_true false y h = inr h
-
-pub neither_true : (x y : Bool) → x || y ≡ false → (x ≡ false) × (y ≡ false)
-neither_true true y h = absurd (not_both refl h)
-neither_true false y h = (refl, h)
-
-pub both_true : (x y : Bool) → x && y ≡ true → (x ≡ true) × (y ≡ true)
-both_true true y h = (refl, h)
-both_true false y h = absurd (not_both h refl)
-
-pub not_true : (x : Bool) → not x ≡ true → x ≡ false
-not_true true h = absurd (not_both h refl)
-not_true false h = refl
-
-pub not_false : (x : Bool) → not x ≡ false → x ≡ true
-not_false true h = refl
-not_false false h = absurd (not_both refl h)
-
-pub is_true : (b : Bool) → T b → b ≡ true
-is_true true h = refl
-is_true false h = elim h [ ]
-
-pub eqb_refl_true : (k : ℕ) → eqb k k ≡ true
-eqb_refl_true k = is_true (eqb k k) (eqb_refl k)
-
-pub eqb_same : (i k : ℕ) → eqb i k ≡ true → i ≡ k
-eqb_same i k e = eqb→eq i k (subst T (sym e) tt)
-
-pub eqb_other : (i k : ℕ) → i ≢ k → eqb i k ≡ false
-eqb_other i k h = go (truth (eqb i k))
-  where
-    go : (eqb i k ≡ true) ⊎ (eqb i k ≡ false) → eqb i k ≡ false
-    go (inl e) = absurd (h (eqb_same i k e))
-    go (inr e) = e
+contraposed x y h e = false_from_ne_true x (λ k. both_ways y e (h k))
 
 pub at_same {ℓ} : {A : Type ℓ} (f : ℕ → A) (k : ℕ) (y : A) → at f k y k ≡ y
-at_same f k y = rw (eqb_refl_true k)
+at_same f k y = rw (eq-eqb k k refl)
 
 pub at_other {ℓ} : {A : Type ℓ} (f : ℕ → A) (k : ℕ) (y : A) (i : ℕ) → i ≢ k → at f k y i ≡ f i
-at_other f k y i h = rw (eqb_other i k h)
+at_other f k y i h = rw (ne_eqb i k h)
 
 pub at_elim {ℓ κ} : {A : Type ℓ} (P : A → Type κ) (f : ℕ → A) (k : ℕ) (y : A) (i : ℕ) → (i ≡ k → P y) → (i ≢ k → P (f i)) → P (at f k y i)
 at_elim P f k y i a b = go (ℕ_discrete i k)

@@ -47,11 +47,6 @@ module _ (s : ℕ → ℤ) (xs : List Transaction) (T : Transaction) (ys : List 
       exact-order-++ s xs (T ∷ ys) (exact_order_left s xs ys h)
       (e, subst (λ (r : ℕ → ℤ). AllExact r ys) (sym (alone_silent (replay s xs) T silent)) (exact_order_right s xs ys h))
 
-pub mem-++ : (U : Transaction) (xs ys : List Transaction) → Memᴰ U (xs ++ ys) → Memᴰ U xs ⊎ Memᴰ U ys
-mem-++ U [] ys m = inr m
-mem-++ U (T ∷ xs) ys (Memᴰ.head e) = inl (Memᴰ.head e)
-mem-++ U (T ∷ xs) ys (Memᴰ.tail m) = elim (mem-++ U xs ys m) [ inl q ↦ inl (Memᴰ.tail q) | inr q ↦ inr q ]
-
 pub mem_skip : (U T : Transaction) (xs ys : List Transaction) → Memᴰ U (xs ++ (T ∷ ys)) → (U ≡ T) ⊎ Memᴰ U (xs ++ ys)
 mem_skip U T [] ys (Memᴰ.head e) = inl e
 mem_skip U T [] ys (Memᴰ.tail m) = inr m
@@ -73,14 +68,6 @@ order_insert (S ∷ xs) T ys f g h =
 pub data Cuts (xs ys cs ds : List Transaction) : Type 0 where
   earlier : (ms : List Transaction) → cs ≡ xs ++ ms → ys ≡ ms ++ ds → Cuts xs ys cs ds
   later : (ms : List Transaction) → xs ≡ cs ++ ms → ds ≡ ms ++ ys → Cuts xs ys cs ds
-
-head_of : Transaction → List Transaction → Transaction
-head_of d [] = d
-head_of d (T ∷ Ts) = T
-
-tail_of : List Transaction → List Transaction
-tail_of [] = []
-tail_of (T ∷ Ts) = Ts
 
 pub cuts : (xs ys cs ds : List Transaction) → xs ++ ys ≡ cs ++ ds → Cuts xs ys cs ds
 cuts [] ys cs ds e = earlier cs refl e

@@ -1,31 +1,22 @@
 -- What a call leaves standing of the tasks that didn't make it.
-use Rattle.std.proofs.Common.{◌≡◌, ℕ, ◌<◌, true, false, ◌≢◌, ◌⊎◌, List, [], ◌∷◌, ◌++◌, ℤ, sym, refl, ap, ◌∙◌, subst, inl, inr, append_assoc, arith}
-use native.Mathlib.Decide.{ℕ_discrete}
+use Rattle.std.proofs.Common.{◌≡◌, ℕ, ◌<◌, true, false, ◌≢◌, ◌⊎◌, List, [], ◌∷◌, ◌++◌, ℤ, sym, refl, ap, ◌∙◌, subst, inl, inr, append_assoc, arith, rules}
 use mathlib.Core.Path.{fun_ext}
-use mathlib.Core.List.{Memᴰ, Permᴰ}
+use mathlib.Core.List.Memᴰ
+use mathlib.Core.List.{Memᴰ}
 use mathlib.Core.Option.{none}
 use Rattle.history.specs.Steps.{zeros}
-use Rattle.history.specs.Transactions.{Fate, unended, Transaction, Ledger, calls, over_with}
+use Rattle.history.specs.Transactions.{Fate, Transaction, Ledger, calls, over_with}
 use Rattle.history.specs.Alone.{nothing_pending, Exact}
 use Rattle.history.specs.Serial.{all_committed, replay}
 use Rattle.history.specs.Law.{Stood, earlier, OneMoment, Rival}
-use Rattle.history.proofs.Logic.{truth, no_some, contraposed}
+use Rattle.history.proofs.Logic.{contraposed}
 use Rattle.history.proofs.Accesses.{within_more, exact_answered}
-use Rattle.history.proofs.Orders.{mem-++}
 use Rattle.history.proofs.Views.{View}
 use Rattle.history.proofs.Invariant.{Fences, Behind, UpToDate, Held, Standing, Settled, Latest, Active, Invariant}
 use Rattle.history.proofs.Ledgers.{Grows, AllUnended, rival_grows, rival_later, shut}
 
 pub unended_all : {a : View} {L : Ledger} {order : List Transaction} → Invariant a L order → AllUnended L
-unended_all {a} {L} {order} g t T e = go (truth (a.facts.active t))
-  where
-    go : (a.facts.active t ≡ true) ⊎ (a.facts.active t ≡ false) → T.fate ≡ unended
-    go (inl h) =
-        let o : Active a L order t = g.active t h in
-        let i = o.is in
-        let q : o.transaction ≡ T = cc in
-        subst (λ (X : Transaction). X.fate ≡ unended) q o.standing.fate
-    go (inr h) = absurd (no_some (g.idle t h) e)
+unended_all {a} {L} {order} g t T e = search rules
 
 -- where the cut of one that is behind goes when the order changes
 pub record Shift (b : View) (u first : ℕ) (order' pre post : List Transaction) : Type 0 where
@@ -50,7 +41,7 @@ append_shift b u first order T fences recent pre post e = record {
   post' = post ++ (T ∷ []);
   cut = ap (λ (r : List Transaction). r ++ (T ∷ [])) e ∙ append_assoc pre post (T ∷ []);
   same = refl;
-  newer = λ U m. go U (mem-++ U post (T ∷ []) m);
+  newer = λ U m. go U (Memᴰ.append_cases post m);
 }
   where
     go : (U : Transaction) → Memᴰ U post ⊎ Memᴰ U (T ∷ []) → Memᴰ U post ⊎ (Fences b u U × (U.last < first → ⊥))
@@ -62,14 +53,7 @@ pub keep_rival : {L L' : Ledger} {u first v : ℕ} → Grows L L' → AllUnended
 keep_rival {L} {L'} g all h r = let k = g.longer in rival_later (calls L') (omega arith) (rival_grows g all (omega arith) r)
 
 pub keep_held : {L L' : Ledger} {T : Transaction} → Grows L L' → Held L T → Held L' T
-keep_held g h = record {
-  moment = h.moment;
-  values = h.values;
-  stood = g.moments h.moment h.values h.stood;
-  since = h.since;
-  until = h.until;
-  exact = h.exact;
-}
+keep_held g h = search rules
 
 module _ {a b : View} {L L' : Ledger} {order order' : List Transaction} {u : ℕ} {T : Transaction} (g : Grows L L') (all : AllUnended L) where
   pub keep_behind : T.first < calls L → ((w : ℕ) → a.facts.no_read u w ≡ true → b.facts.no_read u w ≡ true)
@@ -99,21 +83,7 @@ module _ {a b : View} {L L' : Ledger} {order order' : List Transaction} {u : ℕ
       → ((w : ℕ) → b.pending u w ≡ a.pending u w)
       → (b.facts.behind u ≡ false → UpToDate b L' u T) → (b.facts.behind u ≡ true → Behind b L' order' u T)
       → Standing a L order u T → Standing b L' order' u T
-  keep_standing reads writes pending f h s =
-      let k = g.longer in
-      record {
-        task = s.task;
-        fate = s.fate;
-        begun = omega (arith, s.begun);
-        lasted = omega (arith, s.lasted);
-        within = within_more (calls L) (calls L') T.accesses k s.within;
-        pending = λ v. rw (writes v, pending v) (s.pending v);
-        reads = λ v e. s.reads v (sym (reads v) ∙ e);
-        answers = λ v x r. reads v ∙ s.answers v x r;
-        held = keep_held g s.held;
-        up_to_date = f;
-        behind = h;
-      }
+  keep_standing reads writes pending f h s = search (rules, within_more, keep_held)
 
 -- what an access, a begin or an end without a commit leaves of another
 pub record Undisturbed (a b : View) (L' : Ledger) (u first : ℕ) : Type 0 where
@@ -144,21 +114,10 @@ module _ {a : View} (b : View) {L : Ledger} (L' : Ledger) {order : List Transact
     (same : (u : ℕ) → u ≢ t → L'.current u ≡ L.current u) where
   pub all_active : ((u : ℕ) (T : Transaction) → u ≢ t → a.facts.active u ≡ true → Standing a L order u T → Standing b L' order' u T)
       → (b.facts.active t ≡ true → Active b L' order' t) → (u : ℕ) → b.facts.active u ≡ true → Active b L' order' u
-  all_active each mine u h = go (ℕ_discrete u t)
-    where
-      go : Dec (u ≡ t) → Active b L' order' u
-      go (yes e) = subst (λ (w : ℕ). Active b L' order' w) (sym e) (mine (subst (λ (w : ℕ). b.facts.active w ≡ true) e h))
-      go (no ne) =
-          let l : a.facts.active u ≡ true = sym (only u ne) ∙ h in
-          let o : Active a L order u = inv.active u l in
-          record { transaction = o.transaction; is = same u ne ∙ o.is; standing = each u o.transaction ne l o.standing }
+  all_active each mine u h = search rules
 
   pub all_idle : (b.facts.active t ≡ false → L'.current t ≡ none) → (u : ℕ) → b.facts.active u ≡ false → L'.current u ≡ none
-  all_idle mine u h = go (ℕ_discrete u t)
-    where
-      go : Dec (u ≡ t) → L'.current u ≡ none
-      go (yes e) = subst (λ (w : ℕ). L'.current w ≡ none) (sym e) (mine (subst (λ (w : ℕ). b.facts.active w ≡ false) e h))
-      go (no ne) = same u ne ∙ inv.idle u (sym (only u ne) ∙ h)
+  all_idle mine u h = search rules
 
 -- a transaction that ends now has had its moment
 pub end_moment : (t : ℕ) (s : ℕ → ℤ) (L : Ledger) (z : Fate) (T : Transaction) → Held L T → T.last < calls L → OneMoment (shut t s L z T) (over_with z (calls L) T)
@@ -176,14 +135,4 @@ pub same_order : {a b : View} {L L' : Ledger} {order : List Transaction} → Inv
     → all_committed L'.ended ≡ all_committed L.ended → ((v : ℕ) → b.shared v ≡ a.shared v) → Latest L'.moments b.shared
     → ((t : ℕ) → b.facts.active t ≡ true → Active b L' order t) → ((t : ℕ) → b.facts.active t ≡ false → L'.current t ≡ none)
     → ((T : Transaction) → Memᴰ T L'.ended → Settled L' T) → Invariant b L' order
-same_order {a} {b} {L} {L'} {order} inv grows committed shared latest active idle settled = record {
-  each_once = subst (λ (r : List Transaction). Permᴰ order r) (sym committed) inv.each_once;
-  exact = inv.exact;
-  ends = inv.ends ∙ sym (fun_ext shared);
-  in_order = inv.in_order;
-  bounded = λ U m. let k = inv.bounded U m in let l = grows.longer in omega arith;
-  latest = latest;
-  active = active;
-  idle = idle;
-  settled = settled;
-}
+same_order {a} {b} {L} {L'} {order} inv grows committed shared latest active idle settled = search rules

@@ -1,12 +1,12 @@
 -- A step taken apart: which check decided its answer, and what its moves come to.
-use Rattle.std.proofs.Common.{◌≡◌, ℕ, suc, Bool, true, false, List, [], ◌∷◌, ◌++◌, map, length, ℤ, sym, refl, ap, ◌∙◌, subst, arith}
+use Rattle.std.proofs.Common.{◌≡◌, ℕ, suc, Bool, true, false, List, [], ◌∷◌, ◌++◌, map, length, ℤ, sym, refl, ap, ◌∙◌, subst, rules}
 use native.Mathlib.Decide.{ℕ_discrete}
 use mathlib.Core.Option.{Option, none, some}
 use Rattle.policy.specs.Facts.{Facts, may_read}
 use Rattle.policy.specs.Moves.{Move}
 use Rattle.policy.specs.Moves.{read as reads_variable}
-use Rattle.history.specs.Calls.{Call, begin, read, write, collect, snapshot, commit, abort, task, listed, Wrong, Untimely, Barred, read_barred, sent_wrongly, at_wrong_time, by_policy, Answer, refused}
-use Rattle.history.specs.Answers.{Stage, idle, active, broken, checked, must_be_active, must_be_idle, unless_allowed, first_barred, wrong, untimely, barred, granted}
+use Rattle.history.specs.Calls.{Call, task, listed, Wrong, Untimely, Barred, read_barred, sent_wrongly, at_wrong_time, by_policy, Answer, refused}
+use Rattle.history.specs.Answers.{Stage, idle, active, checked, must_be_active, must_be_idle, unless_allowed, first_barred, wrong, untimely, barred, granted}
 use Rattle.history.specs.Steps.{State, Chain, ReadsFor, none_made, made, left_out, Step, sees, first_moves, granted_reads, last_moves, stage_after, pending_after, shared_after}
 use Rattle.history.specs.Transactions.{nothing, addition}
 use Rattle.history.specs.Runs.{in_transaction}
@@ -19,20 +19,13 @@ pub by_check : (Q : Answer → Type 0) (w : Option Wrong) (y : Option Untimely) 
     → ((x : Barred) → y ≡ none → z ≡ some x → Q (refused (by_policy x)))
     → (y ≡ none → z ≡ none → Q ok)
     → Q (checked w y z ok)
-by_check Q (some x) y z ok f g h k = f x refl
-by_check Q none (some x) z ok f g h k = g x refl
-by_check Q none none (some x) ok f g h k = h x refl refl
-by_check Q none none none ok f g h k = k refl refl
+by_check = search rules
 
 pub is_active : (s : Stage) → must_be_active s ≡ none → s ≡ active
-is_active idle h = absurd (no_some h refl)
-is_active active h = refl
-is_active broken h = absurd (no_some h refl)
+is_active = search rules
 
 pub is_idle : (s : Stage) → must_be_idle s ≡ none → s ≡ idle
-is_idle idle h = refl
-is_idle active h = absurd (no_some h refl)
-is_idle broken h = absurd (no_some h refl)
+is_idle = search rules
 
 -- what the policy bars is what was asked for
 pub the_bar : (may : Bool) (why x : Barred) → unless_allowed may why ≡ some x → why ≡ x
@@ -60,28 +53,14 @@ pub record Unasked (c : Call) (s : Stage) (r : Answer) : Type 0 where
   pub adds : (n : ℕ) → addition n c r ≡ nothing
 
 pub wrong_unasked : (c : Call) (s : Stage) (x : Wrong) → Unasked c s (refused (sent_wrongly x))
-wrong_unasked (begin t) s x = record { first = refl; reads = refl; last = refl; stage = refl; pending = λ p. refl; shared = λ e o. refl; adds = λ n. refl }
-wrong_unasked (read t v) s x = record { first = refl; reads = refl; last = refl; stage = refl; pending = λ p. refl; shared = λ e o. refl; adds = λ n. refl }
-wrong_unasked (write t v y) s x = record { first = refl; reads = refl; last = refl; stage = refl; pending = λ p. refl; shared = λ e o. refl; adds = λ n. refl }
-wrong_unasked (collect t vs room) s x = record { first = refl; reads = refl; last = refl; stage = refl; pending = λ p. refl; shared = λ e o. refl; adds = λ n. refl }
-wrong_unasked (snapshot t vs room) s x = record { first = refl; reads = refl; last = refl; stage = refl; pending = λ p. refl; shared = λ e o. refl; adds = λ n. refl }
-wrong_unasked (commit t) s x = record { first = refl; reads = refl; last = refl; stage = refl; pending = λ p. refl; shared = λ e o. refl; adds = λ n. refl }
-wrong_unasked (abort t) s x = record { first = refl; reads = refl; last = refl; stage = refl; pending = λ p. refl; shared = λ e o. refl; adds = λ n. refl }
+wrong_unasked = search rules
 
 -- a commit at the wrong time finds no transaction
 out : (s : Stage) (x : Untimely) → must_be_active s ≡ some x → in_transaction s ≡ false
-out idle x e = refl
-out active x e = absurd (no_some refl e)
-out broken x e = refl
+out = search rules
 
 pub untimely_unasked : (c : Call) (s : Stage) (x : Untimely) → untimely c s ≡ some x → Unasked c s (refused (at_wrong_time x))
-untimely_unasked (begin t) s x e = record { first = refl; reads = refl; last = refl; stage = refl; pending = λ p. refl; shared = λ e o. refl; adds = λ n. refl }
-untimely_unasked (read t v) s x e = record { first = refl; reads = refl; last = refl; stage = refl; pending = λ p. refl; shared = λ e o. refl; adds = λ n. refl }
-untimely_unasked (write t v y) s x e = record { first = refl; reads = refl; last = refl; stage = refl; pending = λ p. refl; shared = λ e o. refl; adds = λ n. refl }
-untimely_unasked (collect t vs room) s x e = record { first = refl; reads = refl; last = refl; stage = refl; pending = λ p. refl; shared = λ e o. refl; adds = λ n. refl }
-untimely_unasked (snapshot t vs room) s x e = record { first = refl; reads = refl; last = refl; stage = refl; pending = λ p. refl; shared = λ e o. refl; adds = λ n. refl }
-untimely_unasked (commit t) s x e = record { first = refl; reads = refl; last = refl; stage = sym (out s x e); pending = λ p. refl; shared = λ e o. refl; adds = λ n. refl }
-untimely_unasked (abort t) s x e = record { first = refl; reads = refl; last = refl; stage = refl; pending = λ p. refl; shared = λ e o. refl; adds = λ n. refl }
+untimely_unasked = search rules
 
 -- no reads are made for no variables
 pub made_none : {vs rs : List ℕ} → ReadsFor vs rs → vs ≡ [] → rs ≡ []
@@ -89,13 +68,13 @@ made_none none_made e = refl
 made_none (made {vs = vs} {rs = rs} v m) e = absurd (go vs e)
   where
     go : (vs : List ℕ) → vs ++ (v ∷ []) ≡ [] → ⊥
-    go [] h = let z : ◌≡◌ {A = ℕ} 0 1 = cc in omega arith
-    go (w ∷ ws) h = let z : ◌≡◌ {A = ℕ} 0 1 = cc in omega arith
+    go [] h = cc
+    go (w ∷ ws) h = cc
 made_none (left_out {vs = vs} {rs = rs} v i m) e = absurd (go vs e)
   where
     go : (vs : List ℕ) → vs ++ (v ∷ []) ≡ [] → ⊥
-    go [] h = let z : ◌≡◌ {A = ℕ} 0 1 = cc in omega arith
-    go (w ∷ ws) h = let z : ◌≡◌ {A = ℕ} 0 1 = cc in omega arith
+    go [] h = cc
+    go (w ∷ ws) h = cc
 
 module _ {P : Type 0} (facts : P → Facts) (after : P → Move → P → Type 0) (strict : Bool) where
   pub no_move : (ms : List Move) (p q : P) → ms ≡ [] → Chain after ms p q → q ≡ p

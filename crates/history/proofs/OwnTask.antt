@@ -1,5 +1,6 @@
 -- Stages and policy keep agreeing: what a call does to the task that makes it.
 use Rattle.std.proofs.Common.{◌≡◌, ℕ, Bool, false, List, [], ◌∷◌, map, ℤ, pos, sym, refl, ap, ◌∙◌, subst}
+use Rattle.std.proofs.lemmas.Bool.{both_ways}
 use mathlib.Core.Option.{none}
 use Rattle.policy.specs.Facts.{Facts, Proper, may_read, may_write, may_commit}
 use Rattle.policy.specs.Moves.{Move, HasWritten, Keeps, read_refused, write_refused, commit_refused}
@@ -8,7 +9,7 @@ use Rattle.history.specs.Calls.{Call, begin, read, write, collect, snapshot, com
 use Rattle.history.specs.Answers.{Stage, idle, active, broken, untimely, must_be_idle, must_not_be_idle}
 use Rattle.history.specs.Steps.{State, Chain, Step, abort_moves, stage_after, pending_after}
 use Rattle.history.specs.Runs.{in_transaction, Sound}
-use Rattle.history.proofs.Logic.{not_both, no_some, at_elim}
+use Rattle.history.proofs.Logic.{no_some, at_elim}
 use Rattle.history.proofs.GrantedReads.{ReadAll, chain_reads}
 use Rattle.history.proofs.Outcomes.{is_active, is_idle, the_bar, the_place, Unasked, one_move, last_alone, unasked_policy, by_answer}
 
@@ -75,7 +76,7 @@ module _ {P : Type 0} (facts : P → Facts) (after : P → Move → P → Type 0
       written h y = (
         h.active ∙ sym (ap in_transaction (is_active (a.stage t) y)),
         λ w f. at_elim (λ (z : ℤ). z ≡ pos 0) (a.pending t) v x w
-            (λ q. absurd (not_both h.written (ap ((facts b.policy).writes t) (sym q) ∙ f)))
+            (λ q. absurd (both_ways _ (ap ((facts b.policy).writes t) (sym q) ∙ f) h.written))
             (λ ne. sound.unwritten t w (sym (h.writes w ne) ∙ f)),
       )
 

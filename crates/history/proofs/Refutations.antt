@@ -1,5 +1,5 @@
 -- The refuted histories, by computation.
-use Rattle.std.proofs.Common.{◌≡◌, ℕ, Bool, true, false, cond, eqb, ◌⊎◌, List, [], ◌∷◌, ℤ, pos, sym, refl, ap, ◌∙◌, subst, inl, inr, arith, lit<}
+use Rattle.std.proofs.Common.{◌≡◌, ℕ, Bool, true, false, cond, eqb, ◌⊎◌, List, [], ◌∷◌, ℤ, pos, sym, refl, ap, ◌∙◌, subst, inl, inr, lit<, rules}
 use mathlib.Core.List.{Memᴰ, Permᴰ}
 use mathlib.Core.Option.{Option, none, some}
 use Rattle.history.specs.Steps.{zeros}
@@ -11,23 +11,20 @@ use Rattle.history.proofs.Logic.{no_some}
 
 -- the orders of two
 module _ {A : Type 0} where
-  cons_nil : {x : A} {xs : List A} → ◌≡◌ {A = List A} (x ∷ xs) [] → ⊥
-  cons_nil e = let z : ◌≡◌ {A = ℕ} 0 1 = cc in omega arith
-
   perm_none : {xs ys : List A} → Permᴰ xs ys → ys ≡ [] → xs ≡ []
   perm_none Permᴰ.nil e = refl
-  perm_none (Permᴰ.cons q d) e = absurd (cons_nil e)
-  perm_none (Permᴰ.swap p q) e = absurd (cons_nil e)
+  perm_none (Permᴰ.cons q d) e = absurd (cc)
+  perm_none (Permᴰ.swap p q) e = absurd (cc)
   perm_none (Permᴰ.trans d c) e = perm_none d (perm_none c e)
 
   perm_one : {xs ys : List A} (x : A) → Permᴰ xs ys → ys ≡ x ∷ [] → xs ≡ x ∷ []
-  perm_one x Permᴰ.nil e = absurd (cons_nil (sym e))
+  perm_one x Permᴰ.nil e = absurd (cc)
   perm_one x (Permᴰ.cons {l₁ = l₁} {l₂ = l₂} q d) e = let t : l₂ ≡ [] = cc in let s : l₁ ≡ [] = perm_none d t in cc
-  perm_one x (Permᴰ.swap {b' = b'} {l = l} p q) e = let t : b' ∷ l ≡ [] = cc in absurd (cons_nil t)
+  perm_one x (Permᴰ.swap {b' = b'} {l = l} p q) e = absurd (cc)
   perm_one x (Permᴰ.trans d c) e = perm_one x d (perm_one x c e)
 
   pub perm_two : {xs ys : List A} (x y : A) → Permᴰ xs ys → ys ≡ x ∷ y ∷ [] → (xs ≡ x ∷ y ∷ []) ⊎ (xs ≡ y ∷ x ∷ [])
-  perm_two x y Permᴰ.nil e = absurd (cons_nil (sym e))
+  perm_two x y Permᴰ.nil e = absurd (cc)
   perm_two x y (Permᴰ.cons {l₁ = l₁} {l₂ = l₂} q d) e = let t : l₂ ≡ y ∷ [] = cc in let s : l₁ ≡ y ∷ [] = perm_one y d t in inl cc
   perm_two x y (Permᴰ.swap {l = l} p q) e = let t : l ≡ [] = cc in inr cc
   perm_two x y (Permᴰ.trans d c) e = elim (perm_two x y c e) [
@@ -46,10 +43,10 @@ stale_unordered s = go (perm_two reader writer s.each_once refl)
 
     go : (s.order ≡ reader ∷ writer ∷ []) ⊎ (s.order ≡ writer ∷ reader ∷ []) → ⊥
     go (inl e) = (subst InOrder e s.in_order).0 writer (Memᴰ.head refl) (lit< tt)
-    go (inr e) = let q : pos 0 ≡ pos 7 = (subst (AllExact zeros) e s.exact).1.0.0 in let z : ◌≡◌ {A = ℕ} 0 7 = cc in omega arith
+    go (inr e) = let q : pos 0 ≡ pos 7 = (subst (AllExact zeros) e s.exact).1.0.0 in cc
 
 seven_zero : pos 7 ≡ pos 0 → ⊥
-seven_zero q = let z : ◌≡◌ {A = ℕ} 7 0 = cc in omega arith
+seven_zero q = cc
 
 unshared_unordered : SerialOrder (read_off unshared) zeros → ⊥
 unshared_unordered s = seven_zero (subst (λ (Ts : List Transaction). replay zeros Ts 5 ≡ pos 0) (perm_one writer s.each_once refl) (s.ends 5))
@@ -94,13 +91,4 @@ lonely_unrivalled h = go h.rival.lasts
     go (inr e) = no_some (none_there (some (begun 0 0)) (eqb h.rival.rival.task 0)) e
 
 pub refuted : Refuted
-refuted = record {
-  stale_unordered = stale_unordered;
-  unshared_unordered = unshared_unordered;
-  is_dirty = refl;
-  dirty_momentless = dirty_momentless;
-  is_torn = refl;
-  torn_momentless = torn_momentless;
-  is_lonely = refl;
-  lonely_unrivalled = lonely_unrivalled;
-}
+refuted = search (rules, stale_unordered, unshared_unordered, dirty_momentless, torn_momentless, lonely_unrivalled)

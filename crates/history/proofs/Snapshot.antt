@@ -1,7 +1,9 @@
 -- Snapshots: a begin, reads and an end in one call.
-use Rattle.std.proofs.Common.{◌≡◌, ℕ, ◌<◌, Bool, true, false, ◌≢◌, ◌⊎◌, List, [], ◌∷◌, ◌++◌, map, ℤ, sym, refl, ap, ◌∙◌, subst, inl, inr, append-nil, arith}
+use Rattle.std.proofs.Common.{◌≡◌, ℕ, ◌<◌, Bool, true, false, ◌≢◌, ◌⊎◌, List, [], ◌∷◌, ◌++◌, map, ℤ, sym, refl, ap, ◌∙◌, subst, inl, inr, append-nil, arith, rules}
+use Rattle.std.proofs.lemmas.Bool.{both_ways}
 use mathlib.Core.Path.{fun_ext}
 use mathlib.Core.List.Permᴰ
+use mathlib.Core.List.Memᴰ
 use mathlib.Core.List.{Memᴰ}
 use mathlib.Core.Option.{Option, some}
 use Rattle.policy.specs.Moves.{Only, Unchanged, Passed}
@@ -10,9 +12,8 @@ use Rattle.history.specs.Transactions.{committed, policy_refused, Transaction, L
 use Rattle.history.specs.Alone.{nothing_pending, Exact}
 use Rattle.history.specs.Serial.{replay, InOrder}
 use Rattle.history.specs.Law.{just, Rival}
-use Rattle.history.proofs.Logic.{not_both}
 use Rattle.history.proofs.Accesses.{pend_gots, exact_gots, exact_answered, gots_touches}
-use Rattle.history.proofs.Orders.{replay-++, exact-order-++, Silent, alone_silent, mem-++, order_insert}
+use Rattle.history.proofs.Orders.{replay-++, exact-order-++, Silent, alone_silent, order_insert}
 use Rattle.history.proofs.Rules.{silent_behind, bars_kept}
 use Rattle.history.proofs.Views.{View}
 use Rattle.history.proofs.GrantedReads.{BesideAll}
@@ -20,7 +21,7 @@ use Rattle.history.proofs.Effects.{Snaps, BarsSnap}
 use Rattle.history.proofs.Invariant.{Settled, Invariant}
 use Rattle.history.proofs.Ledgers.{Grows, rival_grows, settled_grows, whole_grows}
 use Rattle.history.proofs.Others.{unended_all, append_shift, stays, Undisturbed, undisturbed_standing, all_active, all_idle, same_order}
-use Rattle.history.proofs.End.{Relieved, beside_spared}
+use Rattle.history.proofs.End.{beside_spared}
 use Rattle.history.proofs.Begin.{taken_rival}
 
 module _ (strict : Bool) (t : ℕ) (vs : List ℕ) (see : ℕ → ℤ) (a b : View) (L : Ledger) (order : List Transaction) (inv : Invariant a L order) (step : Snaps strict t vs see a b) where
@@ -70,11 +71,11 @@ module _ (strict : Bool) (t : ℕ) (vs : List ℕ) (see : ℕ → ℤ) (a b : Vi
     no_read_kept = λ k w e. bars_kept q (q.stays_behind (p.behind ∙ s.behind ∙ k)) w (p.no_read_kept w (s.bars.no_read w ∙ e));
     no_read_new = λ k w e. elim ((q.near k).no_read w e) [
       | inl d ↦ elim (p.no_read_new w d) [ inl c ↦ inl (sym (s.bars.no_read w) ∙ c) | inr m ↦ inr (rival_s u first w ne h m) ]
-      | inr d ↦ absurd (not_both d (unwritten w))
+      | inr d ↦ absurd (both_ways _ (unwritten w) d)
     ];
     no_write_new = λ k w e. elim ((q.near k).no_write w e) [
       | inl d ↦ elim (p.no_write_new w d) [ inl c ↦ inl (sym (s.bars.no_write w) ∙ c) | inr m ↦ inr (rival_s u first w ne h m) ]
-      | inr d ↦ absurd (not_both d (unwritten w))
+      | inr d ↦ absurd (both_ways _ (unwritten w) d)
     ];
   }
     where
@@ -98,7 +99,7 @@ module _ (strict : Bool) (t : ℕ) (vs : List ℕ) (see : ℕ → ℤ) (a b : Vi
       until = omega arith;
       agree = λ v x r. ap (λ (s : ℕ → ℤ). s v) same_shared ∙ exact_answered a.shared nothing_pending (gots (calls L) vs (map see vs)) v x exact_s r;
     };
-    rival = λ q ps k. absurd (let z : ◌≡◌ {A = ℕ} 0 1 = cc in omega arith);
+    rival = λ q ps k. absurd (cc);
   })
   all_settled U (Memᴰ.tail m) = settled_grows grows (unended_all inv) (inv.settled U m)
 
@@ -114,11 +115,11 @@ module _ (strict : Bool) (t : ℕ) (vs : List ℕ) (see : ℕ → ℤ) (a b : Vi
     ends = replay-++ zeros order (S ∷ []) ∙ alone_silent (replay zeros order) S silent ∙ inv.ends ∙ sym same_shared;
     in_order = order_insert order S [] (λ U m k. omega (arith, inv.bounded U m)) (λ U m k. elim m [ ])
         (subst (λ (r : List Transaction). InOrder r) (sym (append-nil order)) inv.in_order);
-    bounded = λ U m. bounded U (mem-++ U order (S ∷ []) m);
+    bounded = λ U m. bounded U (Memᴰ.append_cases order m);
     latest = refl;
     active = all_active b L' order' t inv only (λ u ne. refl)
         (λ u U ne l s. undisturbed_standing grows (unended_all inv) step.quiet.shared (append_shift b u U.first order S (λ v k. silent v) (λ k. omega (arith, s.begun))) (undisturbed u U.first s.begun ne l) s)
-        (λ h. absurd (not_both h step.ends.gone));
+        (λ h. absurd (both_ways _ step.ends.gone h));
     idle = all_idle b L' order' t inv only (λ u ne. refl) (λ h. inv.idle t step.begun.was);
     settled = all_settled;
   }
@@ -147,21 +148,7 @@ module _ (t v : ℕ) (vs : List ℕ) (a b : View) (L : Ledger) (order : List Tra
   }
 
   undisturbed_r : (u first : ℕ) → first < calls L → u ≢ t → a.facts.active u ≡ true → Undisturbed a b L'' u first
-  undisturbed_r u first h ne l = record {
-    reads = λ w. p.reads w ∙ s.sets.reads w;
-    writes = λ w. p.writes w ∙ s.sets.writes w;
-    pending = step.quiet.pending u ne;
-    behind = p.behind ∙ s.behind;
-    no_read_kept = λ k w e. p.no_read_kept (s.behind ∙ k) w (s.bars.no_read w ∙ e);
-    no_read_new = λ k w e. elim (p.no_read_new w e) [ inl c ↦ inl (sym (s.bars.no_read w) ∙ c) | inr m ↦ inr (rival_r u first w ne h m) ];
-    no_write_new = λ k w e. elim (p.no_write_new w e) [ inl c ↦ inl (sym (s.bars.no_write w) ∙ c) | inr m ↦ inr (rival_r u first w ne h m) ];
-  }
-    where
-      s : Unchanged a.facts step.opened u
-      s = step.begun.others u ne l
-
-      p : Relieved vs step.opened b.facts u
-      p = beside_spared (step.earlier.others u ne (step.begun.only u ne ∙ l)) (step.ends.others u ne (step.earlier.only u ne ∙ step.begun.only u ne ∙ l))
+  undisturbed_r u first h ne l = search (rules, rival_r, beside_spared)
 
   all_settled_r : (U : Transaction) → Memᴰ U (R ∷ L.ended) → Settled L'' U
   all_settled_r U (Memᴰ.head e) = subst (λ (X : Transaction). Settled L'' X) (sym e) (record {
@@ -180,6 +167,6 @@ module _ (t v : ℕ) (vs : List ℕ) (a b : View) (L : Ledger) (order : List Tra
   bar_snap_keeps = same_order inv grows_r refl step.quiet.shared refl
       (all_active b L'' order t inv only_r (λ u ne. refl)
       (λ u U ne l s. undisturbed_standing grows_r (unended_all inv) step.quiet.shared (stays b u U.first order) (undisturbed_r u U.first s.begun ne l) s)
-      (λ h. absurd (not_both h step.ends.gone)))
+      (λ h. absurd (both_ways _ step.ends.gone h)))
       (all_idle b L'' order t inv only_r (λ u ne. refl) (λ h. inv.idle t step.begun.was))
       all_settled_r

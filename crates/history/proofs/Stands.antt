@@ -1,16 +1,16 @@
 -- The law, from the invariant, over any run.
-use Rattle.std.proofs.Common.{◌≡◌, ℕ, Bool, true, false, ◌⊎◌, List, [], ℤ, sym, refl, ap, ◌∙◌, subst, inl, inr, arith}
+use Rattle.std.proofs.Common.{◌≡◌, ℕ, Bool, true, false, ◌⊎◌, List, [], ℤ, sym, refl, ap, subst, inl, inr, arith, rules}
+use Rattle.std.proofs.lemmas.Bool.{cases_Bool, both_ways}
 use mathlib.Core.Path.{fun_ext}
 use mathlib.Core.List.Permᴰ
-use mathlib.Core.Option.{Option, some}
+use mathlib.Core.Option.{some}
 use Rattle.policy.specs.Facts.{Facts, Proper}
 use Rattle.policy.specs.Moves.{Move, Keeps}
 use Rattle.history.specs.Steps.{State}
-use Rattle.history.specs.Transactions.{unended, policy_refused, Transaction, Ledger, History, new_ledger, read_off}
-use Rattle.history.specs.Alone.{nothing_pending}
+use Rattle.history.specs.Transactions.{unended, Transaction, Ledger, History, new_ledger, read_off}
 use Rattle.history.specs.Law.{OneMoment, Lawful}
 use Rattle.history.specs.Runs.{UnrefusedAlone, Sound, New, Leads, none_yet, then, LawStands, StaysSound}
-use Rattle.history.proofs.Logic.{truth, not_both, no_some}
+use Rattle.history.proofs.Logic.{no_some}
 use Rattle.history.proofs.Accesses.{exact_answered}
 use Rattle.history.proofs.Views.{View, view}
 use Rattle.history.proofs.Invariant.{Held, Active, Invariant}
@@ -19,17 +19,7 @@ use Rattle.history.proofs.Keeping.{step_keeps}
 use Rattle.history.proofs.Soundness.{new_sound, step_sound}
 
 held_moment : {L : Ledger} {T : Transaction} → Held L T → OneMoment L T
-held_moment {L} {T} h = record {
-  moment = h.moment;
-  values = h.values;
-  stood = h.stood;
-  since = h.since;
-  until = h.until;
-  agree = λ v x r. exact_answered h.values nothing_pending T.accesses v x h.exact r;
-}
-
-unended_unbarred : {asked : Option ℕ} {passed : List ℕ} → unended ≡ policy_refused asked passed → ⊥
-unended_unbarred e = let z : ◌≡◌ {A = ℕ} 0 1 = cc in omega arith
+held_moment {L} {T} h = search (rules, exact_answered)
 
 pub invariant_lawful : (a : View) (h : History) (order : List Transaction) → Invariant a (read_off h) order → Lawful h a.shared
 invariant_lawful a h order inv = record {
@@ -40,10 +30,10 @@ invariant_lawful a h order inv = record {
     ends = λ v. ap (λ (s : ℕ → ℤ). s v) inv.ends;
     in_order = inv.in_order;
   };
-  one_moment = λ T k. elim k [ inl m ↦ (inv.settled T m).moment | inr c ↦ current_moment c.0 T c.1 (truth (a.facts.active c.0)) ];
+  one_moment = λ T k. elim k [ inl m ↦ (inv.settled T m).moment | inr c ↦ current_moment c.0 T c.1 (cases_Bool (a.facts.active c.0)) ];
   rivals = λ T asked passed k e. elim k [
     | inl m ↦ (inv.settled T m).rival asked passed e
-    | inr c ↦ absurd (unended_unbarred (sym (unended_all inv c.0 T c.1) ∙ e))
+    | inr c ↦ (let q : T.fate ≡ unended = unended_all inv c.0 T c.1 in absurd (cc))
   ];
 }
   where
@@ -72,7 +62,7 @@ module _ {P : Type 0} (facts : P → Facts) (after : P → Move → P → Type 0
     in_order = tt;
     bounded = λ U m. elim m [ ];
     latest = tt;
-    active = λ t h. absurd (not_both h (n.fresh t));
+    active = λ t h. absurd (both_ways _ (n.fresh t) h);
     idle = λ t h. refl;
     settled = λ T m. elim m [ ];
   }

@@ -1,20 +1,20 @@
 -- The checks of a list of variables, place by place.
 use Rattle.std.proofs.Common.{◌≡◌, ℕ, zero, suc, ◌+◌, ◌<◌, ◌≤◌, Bool, true, false, T, ltb, List, [], ◌∷◌, length, get_or, drop, sym, refl, ap, ◌∙◌, subst, add-one, arith, ltb→lt}
 use mathlib.Core.Option.{Option, none, some}
+use Rattle.std.proofs.lemmas.Bool.{lt-ltb, le-ltb}
 use Rattle.std.proofs.lemmas.List.{drop_more, drop_all}
 use Rattle.policy.specs.Limits.{tasks, variables}
 use Rattle.history.specs.Calls.{Wrong, no_task, no_variable, listed, list_length, short_buffer}
 use Rattle.history.specs.Answers.{◌or_else◌, unless, first_wrong, wrong_list, longest_list}
 use Rattle.history.proofs.Logic.{no_some}
-use Rattle.history.proofs.Building.{below, not_below}
 use Rattle.table.proofs.Checking.{unless_none, task_right}
 
 -- past a place that names a variable, the rest of the list decides
 pub right_here : (i : ℕ) (vs : List ℕ) → i < length vs → get_or vs i 0 < variables → first_wrong i (drop i vs) ≡ first_wrong (i + 1) (drop (i + 1) vs)
-right_here i vs h v = ap (first_wrong i) (drop_more vs i 0 h) ∙ rw (below (get_or vs i 0) variables v, add-one i)
+right_here i vs h v = ap (first_wrong i) (drop_more vs i 0 h) ∙ rw (lt-ltb (get_or vs i 0) variables v, add-one i)
 
 pub wrong_here : (i : ℕ) (vs : List ℕ) → i < length vs → variables ≤ get_or vs i 0 → first_wrong i (drop i vs) ≡ some (no_variable (listed i))
-wrong_here i vs h v = ap (first_wrong i) (drop_more vs i 0 h) ∙ rw (not_below (get_or vs i 0) variables v)
+wrong_here i vs h v = ap (first_wrong i) (drop_more vs i 0 h) ∙ rw (le-ltb (get_or vs i 0) variables v)
 
 pub right_all : (i : ℕ) (vs : List ℕ) → length vs ≤ i → first_wrong i (drop i vs) ≡ none
 right_all i vs h = ap (first_wrong i) (drop_all i vs h)

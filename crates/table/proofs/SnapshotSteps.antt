@@ -1,6 +1,7 @@
 -- A snapshot as a step of the histories' runs.
 use Rattle.std.proofs.Common.{◌≡◌, ℕ, ◌+◌, Bool, true, List, ◌∷◌, ◌++◌, map, length, get_or, take, drop, ℤ, Err, sym, refl, ◌∙◌, subst, arith}
 use mathlib.Core.Option.{none, some}
+use Rattle.std.proofs.lemmas.Bool.{both_ways}
 use Rattle.std.proofs.lemmas.List.{length-take-le}
 use Rattle.policy.specs.Facts.{Facts, Proper, may_commit}
 use Rattle.policy.specs.Moves.{Move, Keeps}
@@ -12,7 +13,6 @@ use Rattle.history.specs.Calls.{snapshot, listed, Answer, values, refused, read_
 use Rattle.history.specs.Answers.{look, must_be_idle, wrong_list}
 use Rattle.history.specs.Steps.{State, Step, sees}
 use Rattle.history.specs.Runs.{Sound}
-use Rattle.history.proofs.Logic.{not_both}
 use Rattle.history.proofs.GrantedReads.{ReadAll}
 use Rattle.history.proofs.Building.{snapshot_may_commit}
 use Rattle.history.proofs.Asking.{task_fit}
@@ -96,8 +96,9 @@ module _ {P : Type 0} (facts : P → Facts) (after : P → Move → P → Type 0
   -- the policy never refuses a snapshot's commit
   pub commit_never_refused : {f : PolicyFault} (count : ℕ) → GrantedReads facts after t vs begun q count → Err f ≡ commit_answer strict (facts q) t → ⊥
   commit_never_refused count reads e =
-      not_both (snapshot_may_commit strict (keeps p begun (begins t) move) all)
+      both_ways _
       (answer_err (fit_task (facts q) t) (may_commit strict (facts q) t) CommitRefused (task_fit (facts q) t ((proper q).task t all.active) all.active) e).0
+      (snapshot_may_commit strict (keeps p begun (begins t) move) all)
     where
       all : ReadAll t vs (facts begun) (facts q)
       all = so_far facts after strict keeps t in_one (collecting facts after strict keeps t reads)

@@ -1,20 +1,24 @@
--- Runs built from what a policy was asked, call by call, and how it answered.
-use Rattle.std.proofs.Common.{◌≡◌, Bool, true, false, cond, List, [], ◌∷◌, reverse, Ok, Err, Result, sym, refl, ap, ◌∙◌, subst}
+-- Runs built from the requests made of a policy, one by one, and how it answered.
+use Rattle.std.proofs.Common.{◌≡◌, true, List, [], ◌∷◌, ◌++◌, reverse, Ok, Err, Result, sym, refl, ap, ◌∙◌, subst, rules}
+use Rattle.std.proofs.lemmas.Bool.{and_parts}
+use mathlib.Core.Option.{Option, none, some}
 use Rattle.policy.specs.declared.PolicyFault.{PolicyFault}
 use Rattle.policy.specs.declared.PolicyFault.TheVariants.{Unfit, ReadBarred, WriteBarred, CommitRefused}
 use Rattle.policy.specs.declared.Granted.{Granted}
+use Rattle.policy.specs.declared.Policy.{Ghosts}
 use Rattle.policy.specs.Facts.{Facts, Fresh}
-use Rattle.policy.specs.Moves.{Move, read_refused, write_refused, commit_refused}
-use Rattle.policy.specs.Moves.{begin as begins, read as reads_variable, write as writes_variable, commit as commits, abort as aborts}
-use Rattle.policy.specs.Answers.{Moved, begin_answer, read_answer, write_answer, commit_answer, abort_answer}
+use Rattle.policy.specs.Moves.{Move}
+use Rattle.policy.specs.Answers.{Moved}
 use Rattle.history.specs.Calls.{Call, begin, read, write, collect, snapshot, commit, abort, task}
 use Rattle.history.specs.Steps.{State, in_case, Chain}
 use Rattle.history.specs.Transactions.{History}
 use Rattle.history.specs.Runs.{New, Leads, none_yet, then}
-use Rattle.history.proofs.Logic.{both_true}
 use Rattle.worked.specs.Policies.{Kind, lock, own, clock, eager_clock, PolicyOf, stated, Made}
 use Rattle.worked.specs.Lines.{Line, Is, calls_made, line_calls}
 use Rattle.worked.specs.Rows.{Row, Played}
+use Rattle.worked.specs.declared.plays.Request.{Request}
+use Rattle.worked.specs.declared.plays.Request.TheVariants.{Begin, Read, Write, Commit}
+use Rattle.worked.specs.Requests.{answer_to, granted_move, refused_move, AskedInTurn}
 use Rattle.worked.proofs.Replays.{picture, plain, moves, replied}
 use Rattle.worked.proofs.PlainSteps.{continued, plain_step}
 use Rattle.worked.proofs.Schedules.{all_plain, new_table, answer_of, is_stated}
@@ -34,36 +38,6 @@ facts_held own p = refl
 facts_held (clock start) p = refl
 facts_held (eager_clock start) p = refl
 
--- the policy's answer to a call; it isn't asked for a whole list
-abbrev pub asked_answer : Bool → Call → Facts → Result Granted PolicyFault
-asked_answer strict (begin t) f = begin_answer f t
-asked_answer strict (read t v) f = read_answer f t v
-asked_answer strict (write t v x) f = write_answer f t v
-asked_answer strict (collect t vs room) f = Err Unfit
-asked_answer strict (snapshot t vs room) f = Err Unfit
-asked_answer strict (commit t) f = commit_answer strict f t
-asked_answer strict (abort t) f = abort_answer f t
-
--- the move that it makes if it grants the call
-abbrev pub granted_move : Call → Move
-granted_move (begin t) = begins t
-granted_move (read t v) = reads_variable t v
-granted_move (write t v x) = writes_variable t v
-granted_move (collect t vs room) = aborts t
-granted_move (snapshot t vs room) = aborts t
-granted_move (commit t) = commits t
-granted_move (abort t) = aborts t
-
--- the move that it makes if it refuses the call
-abbrev pub refused_move : Call → Move
-refused_move (begin t) = begins t
-refused_move (read t v) = read_refused t v
-refused_move (write t v x) = write_refused t v
-refused_move (collect t vs room) = aborts t
-refused_move (snapshot t vs room) = aborts t
-refused_move (commit t) = commit_refused t
-refused_move (abort t) = aborts t
-
 -- the moves that a policy's answer tells of
 abbrev pub told_moves : Move → Move → Result Granted PolicyFault → List Move
 told_moves done barred (Ok g) = done ∷ []
@@ -74,41 +48,47 @@ told_moves done barred (Err CommitRefused) = barred ∷ []
 
 told_chain : {P : Type 0} (after : P → Move → P → Type 0) (done barred : Move) (p q : P) (r : Result Granted PolicyFault) → Moved after done barred p q r
     → Chain after (told_moves done barred r) p q
-told_chain after done barred p q (Ok g) h = (q, h, refl)
-told_chain after done barred p q (Err Unfit) h = h
-told_chain after done barred p q (Err (ReadBarred v)) h = (q, h, refl)
-told_chain after done barred p q (Err (WriteBarred v)) h = (q, h, refl)
-told_chain after done barred p q (Err CommitRefused) h = (q, h, refl)
+told_chain = search rules
 
--- the table asks its policy about the call of a line
-abbrev pub asks : Line → Bool
-asks l = in_case (answer_of l.reply) true (λ why. true) false
+-- the request that a table makes for a call
+abbrev pub request_for : Call → Option Request
+request_for (begin t) = some (Begin t)
+request_for (read t v) = some (Read t v)
+request_for (write t v x) = some (Write t v)
+request_for (collect t vs room) = none
+request_for (snapshot t vs room) = none
+request_for (commit t) = some (Commit t)
+request_for (abort t) = none
 
--- the moves that the policy makes for the call of a line, after the lines before it
-abbrev pub moves_for : (k : Kind) → Line → List Line → List Move
-moves_for k l ls =
-    cond (asks l)
-    (told_moves (granted_move l.call) (refused_move l.call) (asked_answer (stated k).STRICT l.call (meaning k (shown k ls).policy))) []
+-- the request that it makes for the call of a line, if the call comes so far
+abbrev pub requested : Line → Option Request
+requested l = in_case (answer_of l.reply) (request_for l.call) (λ why. request_for l.call) none
+
+abbrev pub one_or_none : Option Request → List Request
+one_or_none none = []
+one_or_none (some c) = c ∷ []
+
+-- the requests for the calls of some lines, newest first, in their order
+abbrev pub requests_for : List Line → List Request
+requests_for [] = []
+requests_for (l ∷ ls) = requests_for ls ++ one_or_none (requested l)
+
+-- the moves that the policy makes for a request, if there is one, after some lines
+abbrev pub moves_for : (k : Kind) → Option Request → List Line → List Move
+moves_for k none ls = []
+moves_for k (some c) ls = told_moves (granted_move c) (refused_move c) (answer_to (stated k).STRICT c (meaning k (shown k ls).policy))
 
 -- they are the moves of the table's step, line by line
 abbrev pub MovesRight : Kind → List Line → Type 0
 MovesRight k [] = Unit {0}
-MovesRight k (l ∷ ls) = (moves_for k l ls ≡ moves l.call ((shown k ls).stage (task l.call)) (answer_of l.reply)) × MovesRight k ls
+MovesRight k (l ∷ ls) = (moves_for k (requested l) ls ≡ moves l.call ((shown k ls).stage (task l.call)) (answer_of l.reply)) × MovesRight k ls
 
--- the policy was asked about a call, and is now q; `earlier` is what is known of the policy before it
-abbrev pub Asked : (k : Kind) → Call → (PolicyOf k → Type 0) → PolicyOf k → Type 0
-Asked k c earlier q =
-    (p : PolicyOf k) × (r : Result Granted PolicyFault)
-    × record {
-      answer : r ≡ asked_answer (stated k).STRICT c ((stated k).facts p);
-      moved : Moved (stated k).after (granted_move c) (refused_move c) p q r;
-    }
-    × earlier p
-
--- a new policy was asked about the calls of some lines, newest first, and is now q
-abbrev pub Play : (k : Kind) → List Line → PolicyOf k → Type 0
-Play k [] q = Fresh ((stated k).facts q) × Made k q
-Play k (l ∷ ls) q = cond (asks l) (Asked k l.call (λ p. Play k ls p) q) (Play k ls q)
+asked_split : {P : Type 0} (policy : Ghosts P) (cs ds : List Request) (p q : P) → AskedInTurn policy (cs ++ ds) p q
+    → (mid : P) × AskedInTurn policy cs p mid × AskedInTurn policy ds mid q
+asked_split policy [] ds p q asked = (p, refl, asked)
+asked_split policy (c ∷ cs) ds p q asked =
+    let rest = asked_split policy cs ds asked.0 q asked.2 in
+    (rest.0, (asked.0, asked.1, rest.1), rest.2)
 
 -- a run of the calls of some lines, newest first, has left a policy at p
 record Reached (k : Kind) (ls : List Line) (p : PolicyOf k) : Type 0 where
@@ -121,8 +101,8 @@ record Reached (k : Kind) (ls : List Line) (p : PolicyOf k) : Type 0 where
   pub same : calls_made history ≡ line_calls ls
   pub policy : end.policy ≡ p
 
-unplayed : (k : Kind) (p : PolicyOf k) → Fresh ((stated k).facts p) → Made k p → Reached k [] p
-unplayed k p fresh made = record {
+unplayed : (k : Kind) (p q : PolicyOf k) → Fresh ((stated k).facts p) → Made k p → q ≡ p → Reached k [] q
+unplayed k p q fresh made same = record {
   start = new_table p;
   end = new_table p;
   history = [];
@@ -130,7 +110,7 @@ unplayed k p fresh made = record {
   made = made;
   run = none_yet;
   same = refl;
-  policy = refl;
+  policy = sym same;
 }
 
 module _ (k : Kind) (ls : List Line) (e : all_plain ls ≡ true) (right : RightOver k ls) (p : PolicyOf k) (so_far : Reached k ls p) where
@@ -172,40 +152,30 @@ module _ (k : Kind) (ls : List Line) (e : all_plain ls ≡ true) (right : RightO
           (subst (λ (x : PolicyOf k). Chain (stated k).after (moves l.call ((shown k ls).stage (task l.call)) (answer_of l.reply)) x q)
           (sym so_far.policy) chain)
 
-  -- the moves that the policy's answer tells of, by the facts so far
-  told : (c : Call) (q : PolicyOf k) (r : Result Granted PolicyFault) → r ≡ asked_answer (stated k).STRICT c ((stated k).facts p)
-      → Moved (stated k).after (granted_move c) (refused_move c) p q r
-      → Chain (stated k).after (told_moves (granted_move c) (refused_move c) (asked_answer (stated k).STRICT c (meaning k (shown k ls).policy))) p q
-  told c q r answer move =
-      told_chain (stated k).after (granted_move c) (refused_move c) p q (asked_answer (stated k).STRICT c (meaning k (shown k ls).policy))
-      (subst (Moved (stated k).after (granted_move c) (refused_move c) p q) (answer ∙ ap (asked_answer (stated k).STRICT c) facts_so_far) move)
+  -- the moves that the policy makes for one more request, if there is one
+  told : (r : Option Request) (q : PolicyOf k) → AskedInTurn (stated k) (one_or_none r) p q → Chain (stated k).after (moves_for k r ls) p q
+  told none q asked = asked
+  told (some c) q asked =
+      subst (Chain (stated k).after (moves_for k (some c) ls) p) (sym asked.2)
+      (told_chain (stated k).after (granted_move c) (refused_move c) p asked.0 (answer_to (stated k).STRICT c (meaning k (shown k ls).policy))
+      (subst (λ (f : Facts). Moved (stated k).after (granted_move c) (refused_move c) p asked.0 (answer_to (stated k).STRICT c f)) facts_so_far asked.1))
 
-one_line : (k : Kind) (l : Line) (ls : List Line) (q : PolicyOf k) (asked : Bool) → all_plain (l ∷ ls) ≡ true → RightOver k (l ∷ ls)
-    → cond asked (told_moves (granted_move l.call) (refused_move l.call) (asked_answer (stated k).STRICT l.call (meaning k (shown k ls).policy))) []
-    ≡ moves l.call ((shown k ls).stage (task l.call)) (answer_of l.reply)
-    → ((p : PolicyOf k) → Play k ls p → Reached k ls p) → cond asked (Asked k l.call (λ p. Play k ls p) q) (Play k ls q) → Reached k (l ∷ ls) q
-one_line k l ls q true e right ms earlier play =
-    let both = both_true (plain l.call) (all_plain ls) e in
-    let so_far : Reached k ls play.0 = earlier play.0 play.3 in
-    moved_on k ls both.1 right.1 play.0 so_far l q both.0 right.0
-    (subst (λ (l : List Move). Chain (stated k).after l play.0 q) ms
-    (told k ls both.1 right.1 play.0 so_far l.call q play.1 play.2.answer play.2.moved))
-one_line k l ls q false e right ms earlier play =
-    let both = both_true (plain l.call) (all_plain ls) e in
-    moved_on k ls both.1 right.1 q (earlier q play) l q both.0 right.0
-    (subst (λ (l : List Move). Chain (stated k).after l q q) ms refl)
+reached : (k : Kind) (ls : List Line) (p q : PolicyOf k) → all_plain ls ≡ true → RightOver k ls → MovesRight k ls → Fresh ((stated k).facts p)
+    → Made k p → AskedInTurn (stated k) (requests_for ls) p q → Reached k ls q
+reached k [] p q e right ms fresh made asked = unplayed k p q fresh made asked
+reached k (l ∷ ls) p q e right ms fresh made asked =
+    let both = and_parts (plain l.call) (all_plain ls) e in
+    let parts = asked_split (stated k) (requests_for ls) (one_or_none (requested l)) p q asked in
+    let so_far : Reached k ls parts.0 = reached k ls p parts.0 both.1 right.1 ms.1 fresh made parts.1 in
+    moved_on k ls both.1 right.1 parts.0 so_far l q both.0 right.0
+    (subst (λ (l : List Move). Chain (stated k).after l parts.0 q) ms.0 (told k ls both.1 right.1 parts.0 so_far (requested l) q parts.2))
 
-reached : (k : Kind) (ls : List Line) (q : PolicyOf k) → all_plain ls ≡ true → RightOver k ls → MovesRight k ls → Play k ls q → Reached k ls q
-reached k [] q e right ms play = unplayed k q play.0 play.1
-reached k (l ∷ ls) q e right ms play =
-    one_line k l ls q (asks l) e right ms.0
-    (λ p before. reached k ls p (both_true (plain l.call) (all_plain ls) e).1 right.1 ms.1 before) play
-
--- a row whose calls a policy was asked about has a run
-pub has_run : (row : Row) → all_plain (reverse row.lines) ≡ true → RightOver row.over (reverse row.lines)
-    → MovesRight row.over (reverse row.lines) → (p : PolicyOf row.over) → Play row.over (reverse row.lines) p → Played row p
-has_run row e right ms p play =
-    let r = reached row.over (reverse row.lines) p e right ms play in
+-- a row whose requests a new policy was asked for has a run
+pub has_run : (row : Row) → all_plain (reverse row.lines) ≡ true → RightOver row.over (reverse row.lines) → MovesRight row.over (reverse row.lines)
+    → (p q : PolicyOf row.over) → Fresh ((stated row.over).facts p) → Made row.over p
+    → AskedInTurn (stated row.over) (requests_for (reverse row.lines)) p q → Played row q
+has_run row e right ms p q fresh made asked =
+    let r = reached row.over (reverse row.lines) p q e right ms fresh made asked in
     record {
       start = r.start;
       end = r.end;

@@ -1,6 +1,5 @@
 -- A run of calls that make no list of reads, where the policy's moves are functions of what it holds: replayed, it can end in one way only.
-use Rattle.std.proofs.Common.{◌≡◌, ℕ, ◌≤◌, Bool, true, false, ◌≢◌, List, [], ◌∷◌, ◌++◌, map, length, ℤ, sym, refl, ap, ◌∙◌, subst, arith, length-append}
-use native.Mathlib.Decide.{ℕ_discrete}
+use Rattle.std.proofs.Common.{◌≡◌, ℕ, ◌≤◌, Bool, true, false, ◌≢◌, List, [], ◌∷◌, ◌++◌, map, length, ℤ, sym, refl, ap, ◌∙◌, subst, arith, length-append, rules}
 use mathlib.Core.Path.{fun_ext}
 use mathlib.Core.List.{Memᴰ}
 use Rattle.policy.specs.Facts.{Facts}
@@ -8,11 +7,10 @@ use Rattle.policy.specs.Moves.{Move}
 use Rattle.policy.specs.Moves.{read as reads_variable}
 use Rattle.history.specs.Update.{at}
 use Rattle.history.specs.Calls.{Call, begin, read, write, collect, snapshot, commit, abort, task}
-use Rattle.history.specs.Calls.{Answer, done, value, values, refused, sent_wrongly, at_wrong_time, by_policy}
+use Rattle.history.specs.Calls.{Answer}
 use Rattle.history.specs.Answers.{Stage, granted, checked, wrong, untimely, barred}
 use Rattle.history.specs.Steps.{State, Chain, ReadsFor, none_made, made, left_out, Step, answer, sees}
 use Rattle.history.specs.Steps.{first_moves, granted_reads, last_moves, stage_after, pending_after, shared_after}
-use Rattle.history.proofs.Logic.{not_both, at_same, at_other}
 
 -- the table with what its policy holds in place of the policy
 abbrev pub picture : {P H : Type 0} → (P → H) → State P → State H
@@ -52,40 +50,14 @@ module _ {H : Type 0} (meaning : H → Facts) where
   }
 
 pub no_first_moves : (c : Call) (r : Answer) → plain c ≡ true → first_moves c r ≡ []
-no_first_moves (begin t) r e = refl
-no_first_moves (read t v) r e = refl
-no_first_moves (write t v x) r e = refl
-no_first_moves (collect t vs room) r e = absurd (not_both e refl)
-no_first_moves (snapshot t vs room) r e = absurd (not_both e refl)
-no_first_moves (commit t) r e = refl
-no_first_moves (abort t) r e = refl
+no_first_moves = search rules
 
 -- a plain call's answer has no count of reads in it
 pub no_count : (c : Call) (see : ℕ → ℤ) (k : ℕ) → plain c ≡ true → granted see k c ≡ granted see 0 c
-no_count (begin t) see k e = refl
-no_count (read t v) see k e = refl
-no_count (write t v x) see k e = refl
-no_count (collect t vs room) see k e = absurd (not_both e refl)
-no_count (snapshot t vs room) see k e = absurd (not_both e refl)
-no_count (commit t) see k e = refl
-no_count (abort t) see k e = refl
-
-one_read : (t v : ℕ) (r : Answer) → length (granted_reads (read t v) r) ≤ 1
-one_read t v done = omega arith
-one_read t v (value x) = omega arith
-one_read t v (values xs k) = omega arith
-one_read t v (refused (sent_wrongly why)) = omega arith
-one_read t v (refused (at_wrong_time why)) = omega arith
-one_read t v (refused (by_policy why)) = omega arith
+no_count = search rules
 
 pub few_reads : (c : Call) (r : Answer) → plain c ≡ true → length (granted_reads c r) ≤ 1
-few_reads (begin t) r e = omega arith
-few_reads (read t v) r e = one_read t v r
-few_reads (write t v x) r e = omega arith
-few_reads (collect t vs room) r e = absurd (not_both e refl)
-few_reads (snapshot t vs room) r e = absurd (not_both e refl)
-few_reads (commit t) r e = omega arith
-few_reads (abort t) r e = omega arith
+few_reads = search rules
 
 none_in : {x : ℕ} {xs : List ℕ} → Memᴰ x xs → length xs ≤ 0 → ⊥
 none_in (Memᴰ.head e) h = omega arith
@@ -103,11 +75,7 @@ moves_append next (m ∷ ms) ns x = moves_append next ms ns (next m x)
 
 -- a function that is y at k and elsewhere as another
 is_at : {A : Type 0} (f g : ℕ → A) (k : ℕ) (y : A) → g k ≡ y → ((u : ℕ) → u ≢ k → g u ≡ f u) → g ≡ at f k y
-is_at f g k y here there = fun_ext (λ u. go u (ℕ_discrete u k))
-  where
-    go : (u : ℕ) → Dec (u ≡ k) → g u ≡ at f k y u
-    go u (yes e) = subst (λ (j : ℕ). g j ≡ at f k y j) (sym e) (here ∙ sym (at_same f k y))
-    go u (no ne) = there u ne ∙ sym (at_other f k y u ne)
+is_at f g k y here there = search rules
 
 -- a policy whose moves are functions of what it holds, and the facts too
 module _ {P H : Type 0} (held : P → H) (meaning : H → Facts) (next : Move → H → H) (after : P → Move → P → Type 0) (strict : Bool)

@@ -1,5 +1,6 @@
 -- A schedule replayed line by line: if each reply is the answer at the state that the lines before it make, every run of its calls is answered so.
-use Rattle.std.proofs.Common.{◌≡◌, ℕ, Bool, true, ◌&&◌, List, [], ◌∷◌, pos, sym, refl, ap, ◌∙◌, subst, arith}
+use Rattle.std.proofs.Common.{◌≡◌, Bool, true, ◌&&◌, List, [], ◌∷◌, pos, sym, refl, ap, ◌∙◌, subst, rules}
+use Rattle.std.proofs.lemmas.Bool.{and_parts}
 use mathlib.Core.Path.{fun_ext}
 use Rattle.policy.specs.Facts.{Facts}
 use Rattle.policy.specs.Moves.{Move}
@@ -8,7 +9,6 @@ use Rattle.history.specs.Answers.{idle}
 use Rattle.history.specs.Steps.{State, Step}
 use Rattle.history.specs.Transactions.{History}
 use Rattle.history.specs.Runs.{New, Leads, none_yet, then}
-use Rattle.history.proofs.Logic.{both_true}
 use Rattle.worked.specs.Lines.{Reply, ok, the_value, refusal, Line, Is, calls_made, line_calls, AnswersAre}
 use Rattle.worked.proofs.Replays.{picture, plain, replied, replayed, step_replied, step_replayed}
 
@@ -24,9 +24,7 @@ answer_of (the_value x) = value x
 answer_of (refusal n why) = refused why
 
 pub is_stated : (y : Reply) (r : Answer) → Is y r → r ≡ answer_of y
-is_stated ok r h = h
-is_stated (the_value x) r h = h
-is_stated (refusal n why) r h = h.0
+is_stated = search rules
 
 -- no call of the lines reads a list
 abbrev pub all_plain : List Line → Bool
@@ -78,10 +76,10 @@ module _ {P H : Type 0} (held : P → H) (meaning : H → Facts) (next : Move �
   replay : (a : State P) {b : State P} {h : History} → Leads (λ p. meaning (held p)) after strict a b h → (ls : List Line) → calls_made h ≡ line_calls ls
       → all_plain ls ≡ true → Right meaning next strict ls (picture held a) → Replay meaning next ls h (picture held a) (picture held b)
   replay a none_yet [] same e right = record { answers = tt; ends = refl }
-  replay a none_yet (l ∷ ls) same e right = absurd (let z : ◌≡◌ {A = ℕ} 0 1 = cc in omega arith)
-  replay a (then c r run step) [] same e right = absurd (let z : ◌≡◌ {A = ℕ} 0 1 = cc in omega arith)
+  replay a none_yet (l ∷ ls) same e right = absurd (cc)
+  replay a (then c r run step) [] same e right = absurd (cc)
   replay a (then {b = b} {d = d} {h = h} c r run step) (l ∷ ls) same e right =
-      let both = both_true (plain l.call) (all_plain ls) e in
+      let both = and_parts (plain l.call) (all_plain ls) e in
       one_more (picture held a) c r b d h l ls (replay a run ls (cc) both.1 right.1) step (cc) both.0 right.0
 
   starts : (a : State P) (x : H) → New (λ p. meaning (held p)) a → held a.policy ≡ x → picture held a ≡ new_table x

@@ -1,16 +1,17 @@
 -- The ten rows: each reply is what its call computes to.
-use Rattle.std.proofs.Common.{◌≡◌, true, reverse, refl, ap, ◌∙◌}
+use Rattle.std.proofs.Common.{◌≡◌, true, reverse, ap, ◌∙◌, rules}
 use mathlib.Core.Option.{some}
-use Rattle.policy.specs.Facts.{some_below}
+use Rattle.policy.specs.Facts.{Fresh, some_below}
 use Rattle.clock.specs.Different.{among, different, different_below}
 use Rattle.clock.specs.Steps.{read_versions}
 use Rattle.history.specs.Steps.{State}
-use Rattle.worked.specs.Policies.{Kind, PolicyOf}
+use Rattle.worked.specs.Policies.{Kind, PolicyOf, stated, Made}
+use Rattle.worked.specs.Requests.{AskedInTurn}
 use Rattle.worked.specs.Rows.{Left, nothing_more, variable_is, clock_is, Row, Leaves, Holds, AllHold, Played, rows}
 use Rattle.worked.specs.Rows.{locked, both_read, too_new, newly_read, behind_reads_on, behind_is_barred, behind_writer, eagerly_barred, owned, renumbered}
 use Rattle.worked.proofs.Replays.{picture}
 use Rattle.worked.proofs.Schedules.{◌and◌, all_plain}
-use Rattle.worked.proofs.Playing.{MovesRight, Play, has_run}
+use Rattle.worked.proofs.Playing.{MovesRight, requests_for, has_run}
 use Rattle.worked.proofs.Policies.{Held, held, clock_in, clock_held, shown, RightOver, runs_over}
 
 -- the table, seen by what its policy holds, is left as a row says
@@ -36,99 +37,50 @@ holds row w a b h run =
     let r = runs_over row.over (reverse row.lines) w.plain w.right a b h run.new run.made run.run run.calls in
     (r.answers, leaves row.over row.left b (shown row.over (reverse row.lines)) r.ends w.left)
 
--- a policy that was asked about the row's calls is left by a run of them
-pub plays : (row : Row) → WorkedOut row → (p : PolicyOf row.over) → Play row.over (reverse row.lines) p → Played row p
-plays row w = has_run row w.plain w.right w.moves
+-- a policy that was asked for the row's requests is left by a run of its calls
+pub plays : (row : Row) → WorkedOut row → (p q : PolicyOf row.over) → Fresh ((stated row.over).facts p) → Made row.over p
+    → AskedInTurn (stated row.over) (requests_for (reverse row.lines)) p q → (q : PolicyOf row.over) × Played row q
+plays row w p q fresh made asked = (q, has_run row w.plain w.right w.moves p q fresh made asked)
 
 pub locked_worked : WorkedOut locked
 unfolding some_below
-locked_worked = record {
-  plain = refl;
-  right = (refl, refl) and refl and refl and refl and tt;
-  moves = refl and refl and refl and refl and tt;
-  left = tt;
-}
+locked_worked = search rules
 
 pub both_read_worked : WorkedOut both_read
 unfolding some_below
-both_read_worked = record {
-  plain = refl;
-  right = refl and refl and refl and refl and tt;
-  moves = refl and refl and refl and refl and tt;
-  left = tt;
-}
+both_read_worked = search rules
 
 pub too_new_worked : WorkedOut too_new
 unfolding some_below
-too_new_worked = record {
-  plain = refl;
-  right = (refl, refl) and refl and refl and refl and refl and tt;
-  moves = refl and refl and refl and refl and refl and tt;
-  left = tt;
-}
+too_new_worked = search rules
 
 pub newly_read_worked : WorkedOut newly_read
 unfolding some_below
-newly_read_worked = record {
-  plain = refl;
-  right = refl and refl and refl and refl and refl and tt;
-  moves = refl and refl and refl and refl and refl and tt;
-  left = tt;
-}
+newly_read_worked = search rules
 
 pub behind_reads_on_worked : WorkedOut behind_reads_on
 unfolding some_below
-behind_reads_on_worked = record {
-  plain = refl;
-  right = refl and refl and refl and refl and refl and refl and refl and tt;
-  moves = refl and refl and refl and refl and refl and refl and refl and tt;
-  left = tt;
-}
+behind_reads_on_worked = search rules
 
 pub behind_is_barred_worked : WorkedOut behind_is_barred
 unfolding some_below
-behind_is_barred_worked = record {
-  plain = refl;
-  right = (refl, refl) and refl and refl and refl and refl and refl and tt;
-  moves = refl and refl and refl and refl and refl and refl and tt;
-  left = tt;
-}
+behind_is_barred_worked = search rules
 
 pub behind_writer_worked : WorkedOut behind_writer
 unfolding some_below
-behind_writer_worked = record {
-  plain = refl;
-  right = (refl, refl) and refl and refl and refl and refl and refl and refl and tt;
-  moves = refl and refl and refl and refl and refl and refl and refl and tt;
-  left = refl;
-}
+behind_writer_worked = search rules
 
 pub eagerly_barred_worked : WorkedOut eagerly_barred
 unfolding some_below
-eagerly_barred_worked = record {
-  plain = refl;
-  right = (refl, refl) and (refl, refl) and refl and refl and refl and refl and refl and tt;
-  moves = refl and refl and refl and refl and refl and refl and refl and tt;
-  left = tt;
-}
+eagerly_barred_worked = search rules
 
 pub owned_worked : WorkedOut owned
 unfolding some_below
-owned_worked = record {
-  plain = refl;
-  right = (refl, refl) and refl and refl and refl and tt;
-  moves = refl and refl and refl and refl and tt;
-  left = tt;
-}
+owned_worked = search rules
 
 pub renumbered_worked : WorkedOut renumbered
 unfolding some_below among different different_below read_versions
-renumbered_worked = record {
-  plain = refl;
-  right = (refl, refl) and refl and refl and refl and refl and tt;
-  moves = refl and refl and refl and refl and refl and tt;
-  left = refl;
-}
+renumbered_worked = search rules
 
 pub all_hold : AllHold rows
 all_hold =

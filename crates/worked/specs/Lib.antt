@@ -1,3 +1,4 @@
 pub mod Policies
 pub mod Lines
 pub mod Rows
+pub mod Requests

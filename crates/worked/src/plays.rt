@@ -1,159 +1,91 @@
-// The worked schedules, played on the policies themselves: each call that a table asks its policy, in order.
-ghost use Rattle.worked.specs.Rows.{Played, Worked};
-ghost use Rattle.worked.specs.Rows.{locked, both_read, too_new, newly_read, behind_reads_on, behind_is_barred, behind_writer, eagerly_barred, owned, renumbered};
+// The worked schedules, played on the policies themselves: the requests that a table makes of its policy, in order.
+ghost use Rattle.std.specs.Prelude.{◌≡◌};
+ghost use Rattle.policy.specs.Answers.{Moved};
+ghost use Rattle.worked.specs.Requests.{answer_to, granted_move, refused_move, AskedInTurn};
+ghost use Rattle.worked.specs.Rows.{Worked};
 
+use Request::{Begin, Commit, Read, Write};
 use clock::Clock;
 use eager::Eager;
 use lock::Lock;
 use own::Own;
-use policy::Policy;
+use policy::{Granted, Policy, PolicyFault};
 
-// The second reader of a variable is refused.
-fn play_locked() -> Lock
-    ensures { Played locked result }
-{
-    let mut policy = Lock::new();
-    let _ = policy.begin(0);
-    let _ = policy.begin(1);
-    let _ = policy.read(0, 5);
-    let _ = policy.read(1, 5);
-    policy
+// A request that a table makes of its policy: the task, and for an access the variable.
+#[derive(Clone, Copy)]
+enum Request {
+    Begin(u8),
+    Read(u8, u8),
+    Write(u8, u8),
+    Commit(u8),
 }
 
-// Both read a variable.
-fn play_both_read() -> Own
-    ensures { Played both_read result }
-{
-    let mut policy = Own::new();
-    let _ = policy.begin(0);
-    let _ = policy.begin(1);
-    let _ = policy.read(0, 5);
-    let _ = policy.read(1, 5);
-    policy
-}
+// Two tasks read one variable.
+const TWO_READERS: [Request; 4] = [Begin(0), Begin(1), Read(0, 5), Read(1, 5)];
 
-// A task is refused what was committed since it began.
-fn play_too_new() -> Clock
-    ensures { Played too_new result }
-{
-    let mut policy = Clock::new(0);
-    let _ = policy.begin(0);
-    let _ = policy.begin(1);
-    let _ = policy.write(1, 5);
-    let _ = policy.commit(1);
-    let _ = policy.read(0, 5);
-    policy
-}
+// Two tasks write one variable.
+const TWO_WRITERS: [Request; 4] = [Begin(0), Write(0, 5), Begin(1), Write(1, 5)];
 
 // A task reads what was committed since it began.
-fn play_newly_read() -> Own
-    ensures { Played newly_read result }
-{
-    let mut policy = Own::new();
-    let _ = policy.begin(0);
-    let _ = policy.begin(1);
-    let _ = policy.write(1, 5);
-    let _ = policy.commit(1);
-    let _ = policy.read(0, 5);
-    policy
-}
+const LATE_READER: [Request; 5] = [Begin(0), Begin(1), Write(1, 5), Commit(1), Read(0, 5)];
 
 // A task that is behind reads on and commits.
-fn play_behind_reads_on() -> Clock
-    ensures { Played behind_reads_on result }
+const READER_BEHIND: [Request; 7] = [
+    Begin(0),
+    Read(0, 5),
+    Begin(1),
+    Write(1, 5),
+    Commit(1),
+    Read(0, 6),
+    Commit(0),
+];
+
+// A task that is behind writes and commits.
+const WRITER_BEHIND: [Request; 7] = [
+    Begin(0),
+    Read(0, 5),
+    Begin(1),
+    Write(1, 5),
+    Commit(1),
+    Write(0, 6),
+    Commit(0),
+];
+
+// Makes one request.
+fn ask<P: Policy>(policy: &mut P, request: Request) -> Result<Granted, PolicyFault>
+    ensures answer { result ≡ answer_to P.Policy.STRICT request (P.Policy.facts policy.old) }
+    ensures moved { Moved P.Policy.after (granted_move request) (refused_move request) policy.old policy.new result }
 {
-    let mut policy = Clock::new(0);
-    let _ = policy.begin(0);
-    let _ = policy.read(0, 5);
-    let _ = policy.begin(1);
-    let _ = policy.write(1, 5);
-    let _ = policy.commit(1);
-    let _ = policy.read(0, 6);
-    let _ = policy.commit(0);
+    match request {
+        Begin(task) => policy.begin(task),
+        Read(task, variable) => policy.read(task, variable),
+        Write(task, variable) => policy.write(task, variable),
+        Commit(task) => policy.commit(task),
+    }
+}
+
+// Makes the requests, one after another.
+fn play<P: Policy>(mut policy: P, requests: &[Request]) -> P
+    ensures { AskedInTurn P.Policy requests.now policy result }
+{
+    for request in requests {
+        let _ = ask(&mut policy, *request);
+    }
     policy
 }
 
-// A task that is behind may not read on.
-fn play_behind_is_barred() -> Own
-    ensures { Played behind_is_barred result }
-{
-    let mut policy = Own::new();
-    let _ = policy.begin(0);
-    let _ = policy.read(0, 5);
-    let _ = policy.begin(1);
-    let _ = policy.write(1, 5);
-    let _ = policy.commit(1);
-    let _ = policy.read(0, 6);
-    policy
-}
-
-// A task that is behind may not commit what it wrote.
-fn play_behind_writer() -> Clock
-    ensures { Played behind_writer result }
-{
-    let mut policy = Clock::new(0);
-    let _ = policy.begin(0);
-    let _ = policy.read(0, 5);
-    let _ = policy.begin(1);
-    let _ = policy.write(1, 5);
-    let _ = policy.commit(1);
-    let _ = policy.write(0, 6);
-    let _ = policy.commit(0);
-    policy
-}
-
-// The layer refuses the write of a task that is behind; its commit then comes too late for the policy to be asked.
-fn play_eagerly_barred() -> Eager<Clock>
-    ensures { Played eagerly_barred result }
-{
-    let clock = Clock::new(0);
-    let mut policy = Eager::new(clock);
-    let _ = policy.begin(0);
-    let _ = policy.read(0, 5);
-    let _ = policy.begin(1);
-    let _ = policy.write(1, 5);
-    let _ = policy.commit(1);
-    let _ = policy.write(0, 6);
-    policy
-}
-
-// The second writer of a variable is refused.
-fn play_owned() -> Own
-    ensures { Played owned result }
-{
-    let mut policy = Own::new();
-    let _ = policy.begin(0);
-    let _ = policy.write(0, 5);
-    let _ = policy.begin(1);
-    let _ = policy.write(1, 5);
-    policy
-}
-
-// The clock is renumbered at the commit, and the older task is refused as before.
-fn play_renumbered() -> Clock
-    ensures { Played renumbered result }
-{
-    let mut policy = Clock::new(4294967295);
-    let _ = policy.begin(0);
-    let _ = policy.begin(1);
-    let _ = policy.write(1, 5);
-    let _ = policy.commit(1);
-    let _ = policy.read(0, 5);
-    policy
-}
-
-// Plays every schedule.
+// Plays the ten schedules, each on its policy. Where the sixth request is refused, a table makes no seventh.
 pub(crate) fn play_all()
     ensures { Worked }
 {
-    let _ = play_locked();
-    let _ = play_both_read();
-    let _ = play_too_new();
-    let _ = play_newly_read();
-    let _ = play_behind_reads_on();
-    let _ = play_behind_is_barred();
-    let _ = play_behind_writer();
-    let _ = play_eagerly_barred();
-    let _ = play_owned();
-    let _ = play_renumbered();
+    let _ = play(Lock::new(), &TWO_READERS);
+    let _ = play(Own::new(), &TWO_READERS);
+    let _ = play(Clock::new(0), &LATE_READER);
+    let _ = play(Own::new(), &LATE_READER);
+    let _ = play(Clock::new(0), &READER_BEHIND);
+    let _ = play(Own::new(), &READER_BEHIND[..6]);
+    let _ = play(Clock::new(0), &WRITER_BEHIND);
+    let _ = play(Eager::new(Clock::new(0)), &WRITER_BEHIND[..6]);
+    let _ = play(Own::new(), &TWO_WRITERS);
+    let _ = play(Clock::new(u32::MAX), &LATE_READER);
 }

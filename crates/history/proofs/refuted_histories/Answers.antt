@@ -1,6 +1,5 @@
-use Rattle.std.proofs.Common.{refl}
 use Rattle.history.proofs.refuted_histories.Goals as goal
 use Rattle.history.proofs.Refutations.{refuted}
 
-pub returns : goal.returns
-returns c = record { count = refl; refuted = refuted }
+pub returns-clause-refuted : goal.returns-clause-refuted
+returns-clause-refuted c = refuted
