@@ -1,15 +1,28 @@
 -- A collect or a snapshot on its way: what has been read so far, one variable after another, and the step that it ends in.
 use Rattle.std.proofs.Common.{◌≡◌, ℕ, suc, Bool, true, false, ◌≢◌, List, [], ◌∷◌, ◌++◌, map, length, sym, refl, ap, ◌∙◌, subst, arith, length-append}
 use Rattle.std.proofs.Math.Seq.{take-append_seam}
+use mathlib.Core.List.{Memᴰ}
 use mathlib.Core.Option.{none, some}
 use Rattle.policy.specs.Facts.{Facts, may_read}
 use Rattle.policy.specs.Moves.{Move, Keeps, read_refused}
 use Rattle.policy.specs.Moves.{begin as begins, read as reads_variable, commit as commits}
 use Rattle.history.specs.Calls.{collect, snapshot, listed, read_barred, by_policy, values, refused}
 use Rattle.history.specs.Answers.{wrong, untimely, first_barred}
-use Rattle.history.specs.Steps.{State, Chain, ReadsFor, none_made, made, Step, sees, stage_after, pending_after}
-use Rattle.history.proofs.GrantedReads.{ReadAll, made_reads}
+use Rattle.history.specs.Steps.{State, Chain, ReadsFor, none_made, made, left_out, Step, sees, stage_after, pending_after}
+use Rattle.history.proofs.Logic.{no_some}
+use Rattle.history.proofs.GrantedReads.{ReadAll, made_covers, made_reads}
 use Rattle.history.proofs.Building.{reads_more, granted_more, barred_here, reads_may, answers_granted, answers_barred}
+
+-- what a list with no bar holds may be read
+pub may_read_in : (f : Facts) (t i : ℕ) (vs : List ℕ) (v : ℕ) → first_barred f t i vs ≡ none → Memᴰ v vs → may_read f t v ≡ true
+may_read_in f t i [] v h m = elim m [ ]
+may_read_in f t i (w ∷ vs) v h m = go (may_read_in f t (suc i) vs v) (may_read f t w) refl m
+  where
+    go : (first_barred f t (suc i) vs ≡ none → Memᴰ v vs → may_read f t v ≡ true) → (may : Bool) → may_read f t w ≡ may → Memᴰ v (w ∷ vs)
+        → may_read f t v ≡ true
+    go later true e (Memᴰ.head q) = ap (may_read f t) q ∙ e
+    go later true e (Memᴰ.tail k) = later (rw e at h) k
+    go later false e k = absurd (no_some (rw e at h) refl)
 
 module _ {P : Type 0} (facts : P → Facts) (after : P → Move → P → Type 0) (strict : Bool)
     (keeps : (p q : P) (m : Move) → after p m q → Keeps strict m (facts p) (facts q)) (t : ℕ) where
@@ -36,6 +49,16 @@ module _ {P : Type 0} (facts : P → Facts) (after : P → Move → P → Type 0
     chain = reads_more after t c.reads v p q r c.chain h;
     granted = granted_more (facts p) t 0 done v c.granted (sym (reads_may (so_far l c) v) ∙ may);
     counted = let e = c.counted in rw (length-append c.reads (v ∷ [])) (omega arith);
+  }
+
+  -- a variable that was collected before
+  pub collect_again : {done : List ℕ} {p q : P} {count : ℕ} (v : ℕ) → Memᴰ v done → Collecting done p q count → Collecting (done ++ (v ∷ [])) p q count
+  collect_again {done} {p} v m c = record {
+    reads = c.reads;
+    made_for = left_out v (made_covers c.made_for v m) c.made_for;
+    chain = c.chain;
+    granted = granted_more (facts p) t 0 done v c.granted (may_read_in (facts p) t 0 done v c.granted m);
+    counted = c.counted;
   }
 
   module _ (room : ℕ) (a b : State P) (shared : (v : ℕ) → b.shared v ≡ a.shared v)

@@ -38,6 +38,10 @@ pub touches_later : (k l v : ℕ) (d : Access) → k ≤ l → Touches k v d →
 touches_later k l v (got n w y) h r = (r.0, omega arith)
 touches_later k l v (put n w y) h r = (r.0, omega arith)
 
+pub touched_later : (T : Transaction) (v k l : ℕ) → k ≤ l → HadTouched T v k → HadTouched T v l
+touched_later T v k l h (inl r) = inl (r.0, r.1, touches_later k l v r.0 h r.2)
+touched_later T v k l h (inr r) = inr (r.0, omega arith)
+
 pub rival_later : {L : Ledger} {t first k v : ℕ} (l : ℕ) → k ≤ l → Rival L t first k v → Rival L t first l v
 rival_later {L} {t} {first} {k} {v} l h r = search rules
 
