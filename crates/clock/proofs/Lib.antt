@@ -1,3 +1,4 @@
 pub mod Reading
 pub mod Rewriting
 pub mod Arrays
+pub mod Listing

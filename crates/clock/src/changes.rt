@@ -18,12 +18,9 @@ use varset::VarSet;
 pub(crate) fn is_stale(versions: &[u32; VARIABLES], x: Transaction) -> bool
     ensures { result ≡ some_below variables (stale_for (running x) (numbers versions.now)) }
 {
-    for v in x.reads.iter() {
-        if versions[v as usize] > x.read_version {
-            return true;
-        }
-    }
-    false
+    x.reads
+        .iter()
+        .any(|v| versions[v as usize] > x.read_version)
 }
 
 // Gives the number to what was written.
