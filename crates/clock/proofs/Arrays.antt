@@ -1,13 +1,12 @@
 -- Arrays that were renumbered or stamped hold what the steps say.
-use Rattle.std.proofs.Common.{◌≡◌, ℕ, ◌+◌, ◌≤◌, Bool, false, cond, ltb, List, map, length, get_or, None, Option, sym, refl, ap, ◌∙◌, arith}
-use Rattle.std.proofs.lemmas.List.{get_or-map}
+use Rattle.std.proofs.Common.{◌≡◌, ℕ, ◌+◌, ◌≤◌, Bool, false, cond, ltb, List, length, get_or, None, Option, sym, refl, ap, ◌∙◌, arith}
 use Rattle.std.proofs.lemmas.Bool.{cond_both, cond-false, le-ltb}
 use Rattle.policy.specs.Limits.{tasks, variables}
 use Rattle.clock.specs.declared.transaction.Transaction.{Transaction}
 use Rattle.clock.specs.Different.{different_below}
 use Rattle.clock.specs.Held.{Held, Sound}
 use Rattle.clock.specs.Steps.{read_versions, at_version, renumbered, stamped}
-use Rattle.clock.specs.Rows.{row, rows, numbers, begun_after, new_number, RenumberedRows, StampedVersions}
+use Rattle.clock.specs.Rows.{row, rows, numbers, begun_after, new_number, RenumberedRows, RenumberedVersions, StampedVersions}
 use Rattle.clock.specs.Counting.{below_bound, below_zero}
 use Rattle.clock.specs.ReadVersions.{row_at, read_versions_below}
 use Rattle.clock.specs.Soundness.{written_from, begun_from}
@@ -33,7 +32,7 @@ policy_from clock ns ts l m sound =
 module _ (clock : ℕ) (ns : List ℕ) (ts : List (Option Transaction)) (sound : Sound (holding clock ns ts)) (wide : length ns ≡ variables) where
   pub renumbered_arrays : (clock' : ℕ) (ns' : List ℕ) (ts' : List (Option Transaction))
       → clock' ≡ new_number ts (clock + 1)
-      → ns' ≡ map (new_number ts) ns
+      → RenumberedVersions (new_number ts) ns ns'
       → RenumberedRows ts ts'
       → holding clock' ns' ts' ≡ renumbered (holding clock ns ts)
   renumbered_arrays clock' ns' ts' c n r =
@@ -45,8 +44,7 @@ module _ (clock : ℕ) (ns : List ℕ) (ts : List (Option Transaction)) (sound :
       (read_versions_below tasks (rows ts) (clock + 1)
       (λ t x e. let h : x.read_version ≤ clock = sound.read_versions t x e in omega arith)))
       (numbers_from ns' (λ v. number (numbers ns v))
-      (λ v h.
-      ap (λ (ms : List ℕ). get_or ms v 0) n ∙ get_or-map number ns v 0 0 (omega arith) ∙ ap number (sym (number_at ns v h)))
+      (λ v h. n v h ∙ ap number (sym (number_at ns v h)))
       (λ v h. ap number (number_past ns v h) ∙ below_zero versions))
       (rows_from ts' (λ t. at_version number (rows ts t)) (λ t h. r t h ∙ ap (at_version number) (sym (row_at ts t h)))
       (λ t h. ap (at_version number) (row_past ts t h)))

@@ -1,4 +1,5 @@
 pub mod Reading
-pub mod Rewriting
 pub mod Arrays
 pub mod Listing
+pub mod Mapping
+pub mod Counted

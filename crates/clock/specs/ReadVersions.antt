@@ -9,11 +9,6 @@ use Rattle.clock.specs.Rows.{row, rows}
 use Rattle.clock.specs.Held.{Running}
 use Rattle.clock.specs.Steps.{read_versions, and_read_version}
 
--- what isn't some transaction is none
-pub none_left : (o : Option Transaction) → ((x : Transaction) → o ≢ Some x) → o ≡ None
-none_left None h = refl
-none_left (Some x) h = absurd (h x refl)
-
 -- the transaction of a task that there is
 pub row_at : (ts : List (Option Transaction)) (t : ℕ) → t < tasks → rows ts t ≡ row (slice_index_or ts t None)
 row_at ts t h = cond-true (nat_lt t tasks) (row (slice_index_or ts t None)) None (lt-ltb t tasks h)
@@ -83,17 +78,3 @@ pub read_versions_next : (ts : List (Option Transaction)) (t : ℕ) → t < task
     → read_versions (t + 1) (rows ts) ≡ and_read_version (row (slice_index_or ts t None)) (read_versions t (rows ts))
 read_versions_next ts t h =
     rw add-one (rw read_versions_more (ap (λ (o : Option Running). and_read_version o (read_versions t (rows ts))) (row_at ts t h)))
-
--- what one more task of an array adds, by its row
-module _ (ts : List (Option Transaction)) (t : ℕ) (there : t < tasks) where
-  pub read_versions_idle : ((x : Transaction) → slice_index_or ts t None ≢ Some x)
-      → read_versions (t + 1) (rows ts) ≡ read_versions t (rows ts)
-  read_versions_idle h =
-      read_versions_next ts t there
-      ∙ ap (λ (o : Option Transaction). and_read_version (row o) (read_versions t (rows ts))) (none_left (slice_index_or ts t None) h)
-
-  pub read_versions_begun : (x : Transaction) → slice_index_or ts t None ≡ Some x
-      → read_versions (t + 1) (rows ts) ≡ x.read_version ∷ read_versions t (rows ts)
-  read_versions_begun x e =
-      read_versions_next ts t there
-      ∙ ap (λ (o : Option Transaction). and_read_version (row o) (read_versions t (rows ts))) e

@@ -8,7 +8,7 @@ ghost use Rattle.clock.specs.Steps.{top, with_transaction, renumbered, stamped, 
 ghost use Rattle.clock.specs.Rows.{row, running, numbers, begun_after, StampedVersions};
 ghost use Rattle.clock.specs.Clocks.{held};
 
-use crate::renumbering::{different_below, renumber_transactions, renumber_versions};
+use crate::renumbering::{different_below, renumbered_transactions, renumbered_versions};
 use crate::state::Clock;
 use crate::transaction::Transaction;
 use policy::{TASKS, VARIABLES};
@@ -56,15 +56,11 @@ impl Clock {
         ensures numbers { held self.new ≡ renumbered (held self.old) }
         ensures same { NoFactChanged (held self.old) (held self.new) }
     {
-        let clock = different_below(&self.transactions, u64::from(self.clock) + 1);
-        let mut versions = self.versions;
-        renumber_versions(&mut versions, &self.transactions);
-        let mut transactions = self.transactions;
-        renumber_transactions(&mut transactions);
+        let transactions = self.transactions;
         *self = Clock {
-            clock,
-            versions,
-            transactions,
+            clock: different_below(&transactions, u64::from(self.clock) + 1),
+            versions: renumbered_versions(self.versions, &transactions),
+            transactions: renumbered_transactions(&transactions),
         };
     }
 

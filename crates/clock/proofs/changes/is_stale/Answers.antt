@@ -1,4 +1,4 @@
-use Rattle.std.proofs.Common.{◌≡◌, ◌<◌, ℕ, rules, Bool, ◌&&◌, ltb, get_or, sym, ap, ap₂, ◌∙◌}
+use Rattle.std.proofs.Common.{ℕ, rules, Bool, ◌&&◌, ltb, get_or, sym, ap, ap₂, ◌∙◌}
 use Rattle.std.proofs.lemmas.Iterator.Adapters.{serves_from_places}
 use Rattle.std.proofs.lemmas.Iterator.Search.{any_from_yields_List}
 use borrow.Author.Tests.{tests}
