@@ -3,3 +3,4 @@ pub mod Arrays
 pub mod Listing
 pub mod Mapping
 pub mod Counted
+pub mod Moving

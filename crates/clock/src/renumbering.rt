@@ -7,27 +7,27 @@ ghost use Rattle.clock.specs.Steps.{read_versions};
 ghost use Rattle.clock.specs.Rows.{rows, has_version, new_number, RenumberedRows, RenumberedVersions};
 ghost use Rattle.policy.specs.Limits.{tasks};
 
-use crate::transaction::Transaction;
-use policy::{TASKS, VARIABLES};
+use crate::state::ReadVersion;
+use policy::VARIABLES;
+use transactions::{Transaction, Transactions};
 
 // Whether one of the rows has a transaction with this read version.
-fn is_read_version(rows: &[Option<Transaction>], number: u32) -> bool
+fn is_read_version(rows: &[Option<Transaction<ReadVersion>>], number: u32) -> bool
     ensures { result ≡ list_any (has_version number) rows.now }
 {
-    rows.iter()
-        .any(|row| row.is_some_and(|x| x.read_version == number))
+    rows.iter().any(|row| row.is_some_and(|transaction| transaction.note == number))
 }
 
 // How many different read versions there are below the bound.
-pub(crate) fn different_below(transactions: &[Option<Transaction>; TASKS], bound: u64) -> u32
+pub(crate) fn different_below(transactions: &Transactions<ReadVersion>, bound: u64) -> u32
     ensures number { result ≡ new_number transactions.now bound }
     ensures counts { result ≡ how_many_below bound (among (read_versions tasks (rows transactions.now))) }
 {
+    let rows = &transactions.rows;
     let mut different = 0;
-    for (t, row) in transactions.iter().enumerate() {
-        if row.is_some_and(|x| {
-            u64::from(x.read_version) < bound
-                && !is_read_version(&transactions[..t], x.read_version)
+    for (t, row) in rows.iter().enumerate() {
+        if row.is_some_and(|transaction| {
+            u64::from(transaction.note) < bound && !is_read_version(&rows[..t], transaction.note)
         }) {
             different += 1;
         }
@@ -38,7 +38,7 @@ pub(crate) fn different_below(transactions: &[Option<Transaction>; TASKS], bound
 // The versions with their new numbers.
 pub(crate) fn renumbered_versions(
     versions: [u32; VARIABLES],
-    transactions: &[Option<Transaction>; TASKS],
+    transactions: &Transactions<ReadVersion>,
 ) -> [u32; VARIABLES]
     ensures { RenumberedVersions (new_number transactions.now) versions result }
 {
@@ -47,14 +47,16 @@ pub(crate) fn renumbered_versions(
 
 // The transactions with their new read versions.
 pub(crate) fn renumbered_transactions(
-    transactions: &[Option<Transaction>; TASKS],
-) -> [Option<Transaction>; TASKS]
+    transactions: &Transactions<ReadVersion>,
+) -> Transactions<ReadVersion>
     ensures { RenumberedRows transactions.now result }
 {
-    transactions.map(|row| {
-        row.map(|x| Transaction {
-            read_version: different_below(transactions, u64::from(x.read_version)),
-            ..x
-        })
-    })
+    Transactions {
+        rows: transactions.rows.map(|row| {
+            row.map(|transaction| Transaction {
+                note: different_below(transactions, u64::from(transaction.note)),
+                ..transaction
+            })
+        }),
+    }
 }

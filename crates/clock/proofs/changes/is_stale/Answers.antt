@@ -17,10 +17,10 @@ any-requires-clause-callable c =
 pub returns : goal.returns
 returns c =
     let versions = c.args.versions.now in
-    let newer : ℕ → Bool = λ v. ltb c.args.x.read_version (get_or versions v 0) in
+    let newer : ℕ → Bool = λ v. ltb c.args.transaction.note (get_or versions v 0) in
     any_from_yields_List newer _ _ c.any.result c.any.ensures.ran (gives_members c.iter.result) (λ v b q k. search (rules, tests))
     ∙ some_member c.iter.result.rest newer
     ∙ some_below_same variables _ _
     (λ v h.
     ap₂ ◌&&◌ (ap (λ (s : VarSet). member s v) c.iter.ensures)
-    (ap (ltb c.args.x.read_version) (sym (number_at versions v h))))
+    (ap (ltb c.args.transaction.note) (sym (number_at versions v h))))

@@ -19,11 +19,11 @@ loop-t-init c = (
 
 pub loop-t-preserved : goal.loop-t-preserved
 loop-t-preserved c =
-    let ts = c.args.transactions.now in
+    let ts = c.args.transactions.now.rows in
     let t = c.loop-t.t-counter in
     let new : c.is_some_and.result ≡ is_new_below ts t c.args.bound (get_or ts t None) = search rules in
     let there : t < tasks = omega arith in
-    let more = λ (b : Bool) (e : b ≡ c.is_some_and.result). counted_row ts t c.args.bound b there c.told-transactions (e ∙ new) in
+    let more = λ (b : Bool) (e : b ≡ c.is_some_and.result). counted_row c.args.transactions.now t c.args.bound b there (e ∙ new) in
     elim c.if-is_some_and.branch [
       | then-is_some_and w ↦ let e = more true (sym w.if-is_some_and.true) in (omega arith, omega arith)
       | else-is_some_and w ↦ let e = more false (sym w.if-is_some_and.false) in (omega arith, omega arith)
