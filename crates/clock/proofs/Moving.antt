@@ -2,16 +2,15 @@
 use Rattle.std.proofs.Common.{◌≡◌, ℕ, Bool, true, false, cond, not, ◌&&◌, ◌||◌, eqb, ltb, List, Some, None, Option, sym, refl, ap, ap₂, ◌∙◌, inl, inr, arith}
 use Rattle.std.proofs.lemmas.Bool.{cases_Bool, eq-eqb, eqb-true, and_right, and_parts}
 use Rattle.policy.specs.Limits.{tasks, variables}
-use Rattle.policy.specs.Answers.{fit_task as fit_task_of, fit_access as fit_access_of}
 use Rattle.varset.specs.Members.{member, nothing, plus}
 use Rattle.transactions.specs.declared.transaction.Transaction.{Transaction}
 use Rattle.transactions.specs.declared.Transactions.{Transactions}
-use Rattle.transactions.specs.Sets.{Sets, fit_task, fit_access, begun as begun_sets, ended, has_read, has_written}
+use Rattle.transactions.specs.Sets.{Sets, fit_access, begun as begun_sets, ended, has_read, has_written}
 use Rattle.transactions.specs.Rows.{sets, notes, noted, IsOf}
-use Rattle.clock.specs.Held.{Running, meaning, writes_of}
+use Rattle.clock.specs.Held.{Running, writes_of}
 use Rattle.clock.specs.Steps.{with_transaction, begun, with_read, with_write}
 use Rattle.clock.specs.Rows.{rows}
-use Rattle.clock.specs.Told.{told, rows_told, rows_idle, rows_active, rows_writes}
+use Rattle.clock.specs.Told.{told, rows_told, rows_idle, rows_writes}
 use Rattle.clock.proofs.Arrays.{holding}
 use Rattle.clock.proofs.Reading.{same_held}
 
@@ -85,13 +84,6 @@ module _ (clock : ℕ) (ns : List ℕ) (x y : Transactions ℕ) (t : ℕ) where
   -- the write set of the transaction that the table tells
   pub writes_held : (z : Transaction ℕ) → IsOf x t z → member z.writes ≡ writes_of (rows x t)
   writes_held z tells = λ i v. (tells.writes v ∙ sym (rows_writes x t v)) i
-
-  -- a call of the task is fit by what is held exactly if it is by what the table tells
-  pub fit_task_held : fit_task_of (meaning (holding clock ns x)) t ≡ fit_task (sets x) t
-  fit_task_held = ap (λ b. ltb t tasks && b) (rows_active x t)
-
-  pub fit_access_held : (v : ℕ) → fit_access_of (meaning (holding clock ns x)) t v ≡ fit_access (sets x) t v
-  fit_access_held v = ap (λ b. ltb t tasks && (ltb v variables && b)) (rows_active x t)
 
   module _ (v : ℕ) (fit : true ≡ fit_access (sets x) t v) where
     parts : (ltb v variables ≡ true) × ((sets x).active t ≡ true)

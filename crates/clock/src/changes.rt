@@ -1,5 +1,5 @@
 // The changes that the calls are made of.
-ghost use Rattle.std.specs.Prelude.{◌≡◌, ◌<◌};
+ghost use Rattle.std.specs.Prelude.{◌≡◌, ◌<◌, length};
 ghost use Rattle.policy.specs.Limits.{variables};
 ghost use Rattle.policy.specs.Facts.{some_below};
 ghost use Rattle.varset.specs.Members.{member};
@@ -26,7 +26,8 @@ pub(crate) fn is_stale(versions: &[u32; VARIABLES], transaction: Transaction<Rea
 
 // Gives the number to what was written.
 fn stamp_versions(versions: &mut [u32; VARIABLES], written: VarSet, number: u32)
-    ensures { StampedVersions (member written) number versions.old versions.new }
+    ensures versions { StampedVersions (member written) number versions.old versions.new }
+    ensures long { length versions.new ≡ variables }
 {
     for v in written.iter() {
         versions[usize::from(v)] = number;
@@ -51,11 +52,8 @@ impl Clock {
         requires { self.old.clock < top }
         ensures { held self.new ≡ stamped (member written) (held self.old) }
     {
-        let clock = self.clock + 1;
-        let mut versions = self.versions;
-        stamp_versions(&mut versions, written, clock);
-        self.clock = clock;
-        self.versions = versions;
+        self.clock += 1;
+        stamp_versions(&mut self.versions, written, self.clock);
     }
 
     // Makes what was written new to every transaction.

@@ -26,8 +26,8 @@ loop-v-preserved c =
           ∙ inv.3 v,
     )
 
-pub returns : goal.returns
-returns c v h =
+pub returns-clause-versions : goal.returns-clause-versions
+returns-clause-versions c v h =
     let all : c.into_iter-v-iterator.result.rest ≡ c.args.written =
     ap (λ (m : Members). m.rest) c.into_iter-v-iterator.ensures.into_iter_gives ∙ c.iter-v-items.ensures in
     sym (renewed_all 0 (λ u. c.args.number) (member c.loop-v.v-iterator.rest) c.loop-v.versions c.in-None.ensures.steps.0 v)

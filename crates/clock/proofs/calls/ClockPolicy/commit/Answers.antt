@@ -10,7 +10,7 @@ returns-then-is_stale-clause-moved c =
     let p : Clock = c.args.self.now in
     record {
       call = search rules;
-      step = ended_held p.clock p.versions p.transactions c.end.new.self c.args.task (search rules) c.end.ensures.sets c.end.ensures.notes;
+      step = ended_held p.clock p.versions p.transactions _ c.args.task (search rules) (search rules) (search rules);
     }
 
 pub returns-clause-moved : goal.returns-clause-moved
@@ -20,7 +20,7 @@ returns-clause-moved c =
     record {
       call = search rules;
       step =
-          ended_held q.clock q.versions q.transactions c.end-2.new.self c.args.task (search rules) c.end-2.ensures.sets c.end-2.ensures.notes
+          ended_held q.clock q.versions q.transactions _ c.args.task (search rules) (search rules) (search rules)
           ∙ ap (with_transaction c.args.task None) c.publish.ensures
           ∙ ap (λ (set : ℕ → Bool). with_transaction c.args.task None (published set (held p)))
           (writes_held p.clock p.versions p.transactions q.transactions c.args.task c.in_ok-transaction.transaction c.in_ok-transaction.ensures.tells);

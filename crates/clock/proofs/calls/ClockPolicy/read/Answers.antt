@@ -8,7 +8,7 @@ returns-then-self-from-clause-moved c =
     let p : Clock = c.args.self.now in
     record {
       call = search rules;
-      step = ended_held p.clock p.versions p.transactions c.end.new.self c.args.task (search rules) c.end.ensures.sets c.end.ensures.notes;
+      step = ended_held p.clock p.versions p.transactions _ c.args.task (search rules) (search rules) (search rules);
     }
 
 pub returns-clause-moved : goal.returns-clause-moved
@@ -18,6 +18,6 @@ returns-clause-moved c =
     record {
       call = search rules;
       step =
-          read_held p.clock p.versions p.transactions c.read.new.self c.args.task c.args.variable fit
-          c.read.ensures.sets c.read.ensures.notes;
+          read_held p.clock p.versions p.transactions _ c.args.task c.args.variable fit
+          (search rules) (search rules);
     }

@@ -25,14 +25,14 @@ invariant_of-self c =
     let p : Clock = c.args.self.now in
     let wide : length c.args.self.now.versions ≡ variables = omega arith in
     let s : Sound (holding (p.clock + 1) c.stamp_versions.new.versions p.transactions) =
-    subst Sound (sym (stamps p c.args.written c.stamp_versions.new.versions wide c.stamp_versions.ensures))
+    subst Sound (sym (stamps p c.args.written c.stamp_versions.new.versions wide c.stamp_versions.ensures.versions))
     (stamped_sound (member c.args.written) (held p) (sound p) (member_outside c.args.written)) in
     record {
-      written = written_from (p.clock + 1) c.stamp_versions.new.versions c.stamp_versions.array_long s.versions;
+      written = written_from (p.clock + 1) c.stamp_versions.new.versions c.stamp_versions.ensures.long s.versions;
       begun = λ t. begun_later p.clock (notes p.transactions t) (p.begun t);
     }
 
 pub returns : goal.returns
 returns c =
     let wide : length c.args.self.now.versions ≡ variables = omega arith in
-    stamps c.args.self.now c.args.written c.stamp_versions.new.versions wide c.stamp_versions.ensures
+    stamps c.args.self.now c.args.written c.stamp_versions.new.versions wide c.stamp_versions.ensures.versions
