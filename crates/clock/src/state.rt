@@ -10,6 +10,7 @@ use transactions::Transactions;
 pub type ReadVersion = u32;
 
 // TL2. No version and no read version is above the clock.
+// No impl Model: what it holds is seen as functions of variables and tasks, which have no code.
 #[derive(Drop)]
 pub struct Clock {
     pub(crate) clock: u32,

@@ -7,7 +7,7 @@ use Rattle.policy.proofs.SomeBelow.{some_below_same}
 use Rattle.varset.specs.Members.{member}
 use Rattle.varset.specs.declared.VarSet.{VarSet}
 use Rattle.clock.proofs.Reading.{number_at}
-use Rattle.clock.proofs.Listing.{gives_members, members_below, some_member}
+use Rattle.varset.proofs.Listing.{gives_members, members_below, some_member}
 use Rattle.clock.proofs.changes.is_stale.Goals as goal
 
 pub any-requires-clause-callable : goal.any-requires-clause-callable

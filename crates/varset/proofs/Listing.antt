@@ -1,5 +1,5 @@
 -- The members of a set in rising order, as the list that going through them gives.
-use Rattle.std.proofs.Common.{◌≡◌, ℕ, zero, suc, ◌+◌, ◌<◌, ◌≤◌, Bool, true, false, ◌&&◌, ◌||◌, eqb, List, [], ◌∷◌, ◌++◌, Option, get_or, map, add-one, length, refl, ap, ◌∙◌, inl, inr, arith}
+use Rattle.std.proofs.Common.{◌≡◌, ℕ, zero, suc, ◌+◌, ◌<◌, ◌≤◌, Bool, true, false, ◌&&◌, ◌||◌, eqb, List, [], ◌∷◌, ◌++◌, Option, get_or, add-one, length, sym, refl, ap, ◌∙◌, inl, inr, arith}
 use Rattle.std.proofs.lemmas.Bool.{cases_Bool, cases_eq, ne_eqb}
 use Rattle.std.proofs.lemmas.Bool.Decides.{nat_tests}
 use Rattle.std.proofs.lemmas.List.{map-id}
@@ -64,9 +64,9 @@ some_listed set test k (suc n) =
 
 range_more : (n : ℕ) → range_with_len 0 (suc n) ≡ range_with_len 0 n ++ n ∷ []
 range_more n =
-    let e : map (λ (x : ℕ). x) (range_with_len 0 (suc n)) ≡ map (λ (x : ℕ). x) (range_with_len 0 n) ++ n ∷ [] =
-    rw add-one at (map-range_with_len_more (λ (x : ℕ). x) 0 n n (omega arith)) in
-    rw (map-id, map-id) at e
+    sym (map-id (range_with_len 0 (suc n)))
+    ∙ rw add-one at (map-range_with_len_more (λ (x : ℕ). x) 0 n n (omega arith))
+    ∙ ap (λ xs. xs ++ n ∷ []) (map-id (range_with_len 0 n))
 
 -- a test passes at some place below n
 some_range : (test : ℕ → Bool) (n : ℕ) → list_any test (range_with_len 0 n) ≡ some_below n test
