@@ -4,7 +4,7 @@ use Rattle.std.proofs.lemmas.Bool.{cases_Bool, ltb-true, both_ways}
 use Rattle.policy.specs.Limits.{tasks, variables}
 use Rattle.varset.proofs.Below.{member_below}
 use Rattle.transactions.specs.Sets.{Sound}
-use Rattle.transactions.specs.Rows.{reads_in, writes_in, row, sets}
+use Rattle.transactions.specs.Rows.{reads_in, writes_in, row, sets, notes}
 use Rattle.transactions.specs.declared.transaction.Transaction.{Transaction}
 use Rattle.transactions.specs.declared.Transactions.{Transactions}
 
@@ -41,3 +41,8 @@ sound x = record {
   read_below = λ t v. read_in_below (row x.rows t) v;
   written_below = λ t v. written_in_below (row x.rows t) v;
 }
+
+-- nothing is noted of a task that there isn't
+pub no_note : {N : Type 0} (x : Transactions N) (t : ℕ) → ltb t tasks ≡ false → notes x t ≡ None
+unfolding notes row
+no_note x t e = rw e
