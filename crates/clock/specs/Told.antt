@@ -1,7 +1,7 @@
 -- What a table of transactions tells of a task is what its row holds.
 use Rattle.std.specs.Prelude.{◌≡◌, ℕ, ◌<◌, ◌≤◌, Bool, false, is_some, Some, None, Option, nat_lt, slice_index_or, refl}
 use Rattle.std.proofs.Common.{ap, ◌∙◌, arith}
-use Rattle.std.proofs.lemmas.Bool.{cond-true, cond-false, lt-ltb, ltb-false, le-ltb, false≢true}
+use Rattle.std.proofs.lemmas.Bool.{cond-true, cond-false, lt-ltb, ltb-false, le-ltb}
 use Rattle.policy.specs.Limits.{tasks}
 use Rattle.transactions.specs.declared.transaction.Transaction.{Transaction}
 use Rattle.transactions.specs.declared.Transactions.{Transactions}
@@ -32,13 +32,10 @@ row_writes (Some x) v = refl
 
 row_begun : (clock : ℕ) (o : Option (Transaction ℕ)) (y : Running) → begun_after clock (note_in o) ≡ false → row o ≡ Some y
     → y.read_version ≤ clock
-row_begun clock None y h e = absurd (false≢true (ap is_some e))
+row_begun clock None y h e = cc
 row_begun clock (Some x) y h e =
-    omega (arith, ltb-false clock x.note h, ap since e)
-  where
-    since : Option Running → ℕ
-    since None = 0
-    since (Some z) = z.read_version
+    let same : running x ≡ y = cc in
+    omega (arith, ltb-false clock x.note h, ap (λ (z : Running). z.read_version) same)
 
 begun_row : (clock : ℕ) (o : Option (Transaction ℕ)) → ((y : Running) → row o ≡ Some y → y.read_version ≤ clock) → begun_after clock (note_in o) ≡ false
 begun_row clock None h = refl

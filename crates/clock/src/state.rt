@@ -7,7 +7,7 @@ use policy::VARIABLES;
 use transactions::Transactions;
 
 // What the clock was when a transaction began: it is noted of each.
-pub type ReadVersion = u32;
+pub(crate) type ReadVersion = u32;
 
 // TL2. No version and no read version is above the clock.
 // No impl Model: what it holds is seen as functions of variables and tasks, which have no code.
