@@ -1,42 +1,30 @@
--- Arrays that were renumbered or stamped hold what the steps say.
-use Rattle.std.proofs.Common.{◌≡◌, ℕ, ◌+◌, ◌≤◌, Bool, false, cond, ltb, List, map, length, get_or, None, Option, sym, refl, ap, ◌∙◌, arith}
-use Rattle.std.proofs.lemmas.List.{get_or-map}
+-- Numbers and transactions that were renumbered or stamped are what the steps say.
+use Rattle.std.proofs.Common.{◌≡◌, ℕ, ◌+◌, ◌≤◌, Bool, false, cond, ltb, List, length, get_or, sym, refl, ap, ◌∙◌, arith}
 use Rattle.std.proofs.lemmas.Bool.{cond_both, cond-false, le-ltb}
 use Rattle.policy.specs.Limits.{tasks, variables}
-use Rattle.clock.specs.declared.transaction.Transaction.{Transaction}
+use Rattle.transactions.specs.declared.Transactions.{Transactions}
 use Rattle.clock.specs.Different.{different_below}
 use Rattle.clock.specs.Held.{Held, Sound}
-use Rattle.clock.specs.Steps.{read_versions, at_version, renumbered, stamped}
-use Rattle.clock.specs.Rows.{row, rows, numbers, begun_after, new_number, RenumberedRows, StampedVersions}
+use Rattle.clock.specs.Steps.{read_versions, renumbered, stamped}
+use Rattle.clock.specs.Rows.{rows, numbers, new_number, RenumberedRows, RenumberedVersions, StampedVersions}
 use Rattle.clock.specs.Counting.{below_bound, below_zero}
-use Rattle.clock.specs.ReadVersions.{row_at, read_versions_below}
-use Rattle.clock.specs.Soundness.{written_from, begun_from}
-use Rattle.clock.proofs.Reading.{same_held, numbers_from, rows_from, number_at}
+use Rattle.clock.specs.ReadVersions.{read_versions_below}
+use Rattle.clock.proofs.Reading.{same_held, numbers_from, number_at}
 
--- a clock and two arrays as what is held
-abbrev pub holding : ℕ → List ℕ → List (Option Transaction) → Held
+-- a clock, versions and transactions as what is held
+abbrev pub holding : ℕ → List ℕ → Transactions ℕ → Held
 holding clock ns ts = record { clock = clock; version = numbers ns; transaction = rows ts }
 
 number_past : (ns : List ℕ) (v : ℕ) → variables ≤ v → numbers ns v ≡ 0
 number_past ns v h = cond-false (ltb v variables) (get_or ns v 0) 0 (le-ltb v variables h)
 
-row_past : (ts : List (Option Transaction)) (t : ℕ) → tasks ≤ t → rows ts t ≡ None
-row_past ts t h = cond-false (ltb t tasks) (row (get_or ts t None)) None (le-ltb t tasks h)
-
--- what is sound makes a policy
-pub policy_from : (clock : ℕ) (ns : List ℕ) (ts : List (Option Transaction)) → length ns ≡ variables → length ts ≡ tasks
-    → Sound (holding clock ns ts)
-    → ((v : ℕ) → ltb clock (get_or ns v 0) ≡ false) × (((t : ℕ) → begun_after clock (get_or ts t None) ≡ false) × Unit {0})
-policy_from clock ns ts l m sound =
-    (written_from clock ns l sound.versions, (begun_from clock ts m sound.read_versions, tt))
-
-module _ (clock : ℕ) (ns : List ℕ) (ts : List (Option Transaction)) (sound : Sound (holding clock ns ts)) (wide : length ns ≡ variables) where
-  pub renumbered_arrays : (clock' : ℕ) (ns' : List ℕ) (ts' : List (Option Transaction))
+module _ (clock : ℕ) (ns : List ℕ) (ts : Transactions ℕ) (sound : Sound (holding clock ns ts)) (wide : length ns ≡ variables) where
+  pub renumbered_fields : (clock' : ℕ) (ns' : List ℕ) (ts' : Transactions ℕ)
       → clock' ≡ new_number ts (clock + 1)
-      → ns' ≡ map (new_number ts) ns
+      → RenumberedVersions (new_number ts) ns ns'
       → RenumberedRows ts ts'
       → holding clock' ns' ts' ≡ renumbered (holding clock ns ts)
-  renumbered_arrays clock' ns' ts' c n r =
+  renumbered_fields clock' ns' ts' c n r =
       let versions : List ℕ = read_versions tasks (rows ts) in
       let number : ℕ → ℕ = different_below versions in
       same_held (holding clock' ns' ts') (renumbered (holding clock ns ts))
@@ -45,16 +33,14 @@ module _ (clock : ℕ) (ns : List ℕ) (ts : List (Option Transaction)) (sound :
       (read_versions_below tasks (rows ts) (clock + 1)
       (λ t x e. let h : x.read_version ≤ clock = sound.read_versions t x e in omega arith)))
       (numbers_from ns' (λ v. number (numbers ns v))
-      (λ v h.
-      ap (λ (ms : List ℕ). get_or ms v 0) n ∙ get_or-map number ns v 0 0 (omega arith) ∙ ap number (sym (number_at ns v h)))
+      (λ v h. n v h ∙ ap number (sym (number_at ns v h)))
       (λ v h. ap number (number_past ns v h) ∙ below_zero versions))
-      (rows_from ts' (λ t. at_version number (rows ts t)) (λ t h. r t h ∙ ap (at_version number) (sym (row_at ts t h)))
-      (λ t h. ap (at_version number) (row_past ts t h)))
+      r
 
-  pub stamped_arrays : (set : ℕ → Bool) (ns' : List ℕ) → ((v : ℕ) → variables ≤ v → set v ≡ false)
+  pub stamped_fields : (set : ℕ → Bool) (ns' : List ℕ) → ((v : ℕ) → variables ≤ v → set v ≡ false)
       → StampedVersions set (clock + 1) ns ns'
       → holding (clock + 1) ns' ts ≡ stamped set (holding clock ns ts)
-  stamped_arrays set ns' outside n =
+  stamped_fields set ns' outside n =
       same_held (holding (clock + 1) ns' ts) (stamped set (holding clock ns ts)) refl
       (numbers_from ns' (λ v. cond (set v) (clock + 1) (numbers ns v))
       (λ v h. n v h ∙ ap (cond (set v) (clock + 1)) (sym (number_at ns v h)))

@@ -1,3 +1,5 @@
 pub mod Reading
-pub mod Rewriting
 pub mod Arrays
+pub mod Mapping
+pub mod Counted
+pub mod Moving

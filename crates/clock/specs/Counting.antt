@@ -3,7 +3,8 @@ use Rattle.std.specs.Prelude.{◌≡◌, ℕ, zero, suc, ◌+◌, ◌<◌, ◌�
 use Rattle.std.proofs.Common.{sym, ap, inl, inr, arith}
 use Rattle.std.proofs.lemmas.Bool.{cases_Bool, cases_lt, cases_eq}
 use Rattle.std.proofs.lemmas.Bool.Decides.{nat_tests}
-use Rattle.clock.specs.Different.{among, different, different_below, how_many_below}
+use Rattle.varset.specs.Below.{how_many_below}
+use Rattle.clock.specs.Different.{among, different, different_below}
 
 -- a higher bound counts no fewer
 pub below_mono : (ns : List ℕ) (x y : ℕ) → x ≤ y → different_below ns x ≤ different_below ns y
@@ -58,19 +59,6 @@ pub different_le : (ns : List ℕ) → different ns ≤ length ns
 unfolding different
 different_le [] = omega arith
 different_le (n ∷ ns) = let r : different ns ≤ length ns = different_le ns in grind (arith, nat_tests)
-
--- one more number is counted if it is below the bound and new
-pub below_new : (n : ℕ) (ns : List ℕ) (x : ℕ) → n < x → among ns n ≡ false → different_below (n ∷ ns) x ≡ different_below ns x + 1
-unfolding different_below
-below_new n ns x h e = grind (arith, nat_tests)
-
-pub below_known : (n : ℕ) (ns : List ℕ) (x : ℕ) → among ns n ≡ true → different_below (n ∷ ns) x ≡ different_below ns x
-unfolding different_below
-below_known n ns x e = grind (arith, nat_tests)
-
-pub below_above : (n : ℕ) (ns : List ℕ) (x : ℕ) → x ≤ n → different_below (n ∷ ns) x ≡ different_below ns x
-unfolding different_below
-below_above n ns x h = grind (arith, nat_tests)
 
 pub below_none : (x : ℕ) → different_below [] x ≡ 0
 unfolding different_below

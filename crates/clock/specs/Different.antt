@@ -1,5 +1,5 @@
 -- How many different numbers a list has, in all and below a bound.
-use Rattle.std.specs.Prelude.{ℕ, zero, suc, ◌+◌, Bool, false, cond, not, ◌&&◌, ◌||◌, List, [], ◌∷◌, ◌==◌, nat_lt}
+use Rattle.std.specs.Prelude.{ℕ, ◌+◌, Bool, false, cond, not, ◌&&◌, ◌||◌, List, [], ◌∷◌, ◌==◌, nat_lt}
 
 -- x is in the list
 unfoldable pub among : List ℕ → ℕ → Bool
@@ -15,8 +15,3 @@ different (y ∷ ys) = cond (among ys y) 0 1 + different ys
 unfoldable pub different_below : List ℕ → ℕ → ℕ
 different_below [] x = 0
 different_below (y ∷ ys) x = cond (nat_lt y x && not (among ys y)) 1 0 + different_below ys x
-
--- how many numbers below x pass a test
-unfoldable pub how_many_below : ℕ → (ℕ → Bool) → ℕ
-how_many_below zero test = 0
-how_many_below (suc x) test = cond (test x) 1 0 + how_many_below x test

@@ -1,7 +1,7 @@
 -- Each call keeps the rules of the interface.
 use Rattle.std.specs.Prelude.{◌≡◌, ℕ, ◌<◌, Bool, true, false, not, ◌&&◌, is_some, Some, None, Option, ◌≢◌, nat_lt, refl}
 use Rattle.std.proofs.Common.{inl, inr, arith}
-use Rattle.std.proofs.lemmas.Bool.{both_ways, and_parts, ltb-true, not-true, cases_lt}
+use Rattle.std.proofs.lemmas.Bool.{and_parts, ltb-true, not-true, cases_lt}
 use Rattle.policy.specs.Limits.{tasks, variables}
 use Rattle.policy.specs.Facts.{Proper, some_below, may_read, may_write, may_commit}
 use Rattle.policy.specs.Moves.{Move, Keeps, begin, read, write, read_refused, write_refused, commit, commit_refused, abort}
@@ -16,23 +16,23 @@ use Rattle.clock.specs.Publishing.{committed}
 
 idle_reads : (o : Option Running) (v : ℕ) → is_some o ≡ false → reads_of o v ≡ false
 idle_reads None v e = refl
-idle_reads (Some x) v e = absurd (both_ways true e refl)
+idle_reads (Some x) v e = cc
 
 idle_writes : (o : Option Running) (v : ℕ) → is_some o ≡ false → writes_of o v ≡ false
 idle_writes None v e = refl
-idle_writes (Some x) v e = absurd (both_ways true e refl)
+idle_writes (Some x) v e = cc
 
 idle_newer : (o : Option Running) (n : ℕ) → is_some o ≡ false → newer o n ≡ false
 idle_newer None n e = refl
-idle_newer (Some x) n e = absurd (both_ways true e refl)
+idle_newer (Some x) n e = cc
 
 idle_behind : (o : Option Running) (version : ℕ → ℕ) → is_some o ≡ false
     → some_below variables (λ v. reads_of o v && newer o (version v)) ≡ false
 idle_behind None version e = some_below_empty variables (λ v. false) (λ v h. refl)
-idle_behind (Some x) version e = absurd (both_ways true e refl)
+idle_behind (Some x) version e = cc
 
 newer_zero : (o : Option Running) (n : ℕ) → n ≡ 0 → newer o n ≢ true
-newer_zero None n z e = both_ways false refl e
+newer_zero None n z e = cc
 newer_zero (Some x) n z e = omega (arith, ltb-true x.read_version n e)
 
 -- what is held of tasks and variables is of ones that there are
@@ -53,7 +53,7 @@ proper s sound =
             | inl h ↦ h
             | inr h ↦ absurd (newer_zero (s.transaction t) (s.version v) (sound.unwritten v h) e)
           ];
-      no_write_below = λ t v e. absurd (both_ways false refl e);
+      no_write_below = λ t v e. cc;
     }
 
 module _ (s : Held) (t v : ℕ) (may : Bool) (d : (fit_access (meaning s) t v && may) ≡ true) where

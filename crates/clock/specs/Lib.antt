@@ -2,6 +2,7 @@ pub mod Different
 pub mod Held
 pub mod Steps
 pub mod Rows
+pub mod Told
 pub mod Clocks
 pub mod After
 pub mod Keeping

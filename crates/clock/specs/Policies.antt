@@ -7,22 +7,21 @@ use Rattle.varset.specs.Members.{member}
 use Rattle.varset.specs.declared.VarSet.{VarSet}
 use Rattle.varset.proofs.Below.{member_below}
 use Rattle.clock.specs.declared.state.Clock.{Clock}
-use Rattle.clock.specs.declared.transaction.Transaction.{Transaction}
 use Rattle.clock.specs.Held.{Sound}
 use Rattle.clock.specs.Rows.{begun_after}
 use Rattle.clock.specs.Clocks.{held}
-use Rattle.clock.specs.Soundness.{sound_arrays}
+use Rattle.clock.specs.Soundness.{sound_fields}
 
 -- what it holds is sound
 pub sound : (p : Clock) → Sound (held p)
-sound p = sound_arrays p.clock p.versions p.transactions p.written p.begun
+sound p = sound_fields p.clock p.versions p.transactions p.written p.begun
 
--- a transaction that did not begin after a clock did not begin after a later one
-pub begun_later : (clock : ℕ) (o : Option Transaction) → begun_after clock o ≡ false → begun_after (clock + 1) o ≡ false
+-- a read version that is not above a clock is not above a later one
+pub begun_later : (clock : ℕ) (o : Option ℕ) → begun_after clock o ≡ false → begun_after (clock + 1) o ≡ false
 begun_later clock None e = refl
-begun_later clock (Some x) e =
-    let h : x.read_version ≤ clock = ltb-false clock x.read_version e in
-    le-ltb (clock + 1) x.read_version (omega arith)
+begun_later clock (Some n) e =
+    let h : n ≤ clock = ltb-false clock n e in
+    le-ltb (clock + 1) n (omega arith)
 
 -- a set of variables has no member that isn't one
 pub member_outside : (s : VarSet) (v : ℕ) → variables ≤ v → member s v ≡ false

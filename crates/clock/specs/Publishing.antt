@@ -22,7 +22,7 @@ record Publishes (set : ℕ → Bool) (f g : Facts) : Type 0 where
 newer_stamped : (o : Option Running) (b : Bool) (clock n : ℕ) → is_some o ≡ true
     → ((x : Running) → o ≡ Some x → x.read_version ≤ clock)
     → newer o (cond b (clock + 1) n) ≡ (b || newer o n)
-newer_stamped None b clock n a h = absurd (both_ways false refl a)
+newer_stamped None b clock n a h = cc
 newer_stamped (Some x) true clock n a h = let k : x.read_version ≤ clock = h x refl in grind (arith, nat_tests)
 newer_stamped (Some x) false clock n a h = refl
 

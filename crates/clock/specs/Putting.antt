@@ -90,7 +90,7 @@ begins t s sound a =
           absurd
           (both_ways (nat_lt s.clock (s.version v)) (le-ltb s.clock (s.version v) (sound.versions v))
           (sym (ap (λ (o : Option Running). newer o (s.version v)) e) ∙ b));
-      no_write = λ v b. absurd (both_ways false refl b);
+      no_write = λ v b. cc;
       only = put_only t x s;
       others = λ u h k. put_unchanged t x s u h;
     }

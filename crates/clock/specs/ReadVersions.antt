@@ -1,22 +1,14 @@
 -- The list of the read versions, for any number of tasks.
-use Rattle.std.specs.Prelude.{◌≡◌, ℕ, zero, suc, ◌+◌, ◌<◌, ◌≤◌, true, List, [], ◌∷◌, length, Some, None, Option, ◌==◌, ◌≢◌, nat_lt, slice_index_or, refl}
-use Rattle.std.proofs.Common.{sym, subst, ap, ◌∙◌, inl, inr, arith, add-one}
-use Rattle.std.proofs.lemmas.Bool.{cases_eq, or_cases, eqb-true, or_left, or_right, eq-eqb, cond-true, lt-ltb}
+use Rattle.std.specs.Prelude.{◌≡◌, ℕ, zero, suc, ◌+◌, ◌<◌, ◌≤◌, true, List, [], length, Some, None, Option, ◌==◌, slice_index_or, refl}
+use Rattle.std.proofs.Common.{sym, subst, ap, inl, inr, arith, add-one}
+use Rattle.std.proofs.lemmas.Bool.{cases_eq, or_cases, eqb-true, or_left, or_right, eq-eqb}
 use Rattle.policy.specs.Limits.{tasks}
-use Rattle.clock.specs.declared.transaction.Transaction.{Transaction}
+use Rattle.transactions.specs.declared.Transactions.{Transactions}
+use Rattle.clock.specs.Told.{rows_at}
 use Rattle.clock.specs.Different.{among}
 use Rattle.clock.specs.Rows.{row, rows}
 use Rattle.clock.specs.Held.{Running}
 use Rattle.clock.specs.Steps.{read_versions, and_read_version}
-
--- what isn't some transaction is none
-pub none_left : (o : Option Transaction) → ((x : Transaction) → o ≢ Some x) → o ≡ None
-none_left None h = refl
-none_left (Some x) h = absurd (h x refl)
-
--- the transaction of a task that there is
-pub row_at : (ts : List (Option Transaction)) (t : ℕ) → t < tasks → rows ts t ≡ row (slice_index_or ts t None)
-row_at ts t h = cond-true (nat_lt t tasks) (row (slice_index_or ts t None)) None (lt-ltb t tasks h)
 
 -- one more task
 pub read_versions_more : (n : ℕ) (ts : ℕ → Option Running) → read_versions (suc n) ts ≡ and_read_version (ts n) (read_versions n ts)
@@ -78,22 +70,8 @@ read_versions_below zero ts b h a e = grind arith
 read_versions_below (suc n) ts b h a e =
     below_first (ts n) (read_versions n ts) a b (h n) (read_versions_below n ts b h a) e
 
--- the tasks of an array, one more of them
-pub read_versions_next : (ts : List (Option Transaction)) (t : ℕ) → t < tasks
-    → read_versions (t + 1) (rows ts) ≡ and_read_version (row (slice_index_or ts t None)) (read_versions t (rows ts))
-read_versions_next ts t h =
-    rw add-one (rw read_versions_more (ap (λ (o : Option Running). and_read_version o (read_versions t (rows ts))) (row_at ts t h)))
-
--- what one more task of an array adds, by its row
-module _ (ts : List (Option Transaction)) (t : ℕ) (there : t < tasks) where
-  pub read_versions_idle : ((x : Transaction) → slice_index_or ts t None ≢ Some x)
-      → read_versions (t + 1) (rows ts) ≡ read_versions t (rows ts)
-  read_versions_idle h =
-      read_versions_next ts t there
-      ∙ ap (λ (o : Option Transaction). and_read_version (row o) (read_versions t (rows ts))) (none_left (slice_index_or ts t None) h)
-
-  pub read_versions_begun : (x : Transaction) → slice_index_or ts t None ≡ Some x
-      → read_versions (t + 1) (rows ts) ≡ x.read_version ∷ read_versions t (rows ts)
-  read_versions_begun x e =
-      read_versions_next ts t there
-      ∙ ap (λ (o : Option Transaction). and_read_version (row o) (read_versions t (rows ts))) e
+-- the tasks of a table, one more of them
+pub read_versions_next : (x : Transactions ℕ) (t : ℕ) → t < tasks
+    → read_versions (t + 1) (rows x) ≡ and_read_version (row (slice_index_or x.rows t None)) (read_versions t (rows x))
+read_versions_next x t h =
+    rw add-one (rw read_versions_more (ap (λ (o : Option Running). and_read_version o (read_versions t (rows x))) (rows_at x t h)))

@@ -2,7 +2,7 @@
 use Rattle.std.specs.Prelude.{◌≡◌, ℕ, ◌≤◌, true, false, ◌&&◌, List, is_some, Some, None, Option, ◌==◌, refl}
 use Rattle.std.proofs.Common.{sym, ap, ap₂, ◌∙◌, arith}
 use Rattle.std.proofs.Math.Path.{fun_ext}
-use Rattle.std.proofs.lemmas.Bool.{false≢true, cond_both}
+use Rattle.std.proofs.lemmas.Bool.{cond_both}
 use Rattle.policy.specs.Limits.{tasks, variables}
 use Rattle.policy.specs.Facts.{some_below}
 use Rattle.clock.specs.Different.{among, different, different_below}
@@ -29,14 +29,12 @@ newer_at : (ns : List ℕ) (o : Option Running) (n : ℕ) → ((x : Running) →
 newer_at ns None n h = refl
 newer_at ns (Some x) n h = below_order ns x.read_version n (h x refl)
 
-abbrev since : Option Running → ℕ
-since None = 0
-since (Some x) = x.read_version
-
 read_version_at : (ns : List ℕ) (o : Option Running) (x : Running) → at_version (different_below ns) o ≡ Some x
     → x.read_version ≤ different ns
-read_version_at ns None x e = absurd (false≢true (ap is_some e))
-read_version_at ns (Some y) x e = omega (arith, ap since e, below_all ns y.read_version)
+read_version_at ns None x e = cc
+read_version_at ns (Some y) x e =
+    let same : different_below ns y.read_version ≡ x.read_version = cc in
+    omega (arith, below_all ns y.read_version)
 
 module _ (s : Held) (sound : Sound s) where
   known : (t : ℕ) (x : Running) → s.transaction t ≡ Some x

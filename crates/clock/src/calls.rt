@@ -10,9 +10,7 @@ ghost use Rattle.policy.specs.Moves.{Keeps};
 
 use crate::changes::is_stale;
 use crate::state::Clock;
-use crate::transaction::Transaction;
-use policy::{Granted, Policy, PolicyFault, TASKS};
-use varset::is_variable;
+use policy::{Granted, Policy, PolicyFault};
 
 impl Policy for Clock {
     ghost active = { λ p. (meaning (held p)).active };
@@ -41,77 +39,57 @@ impl Policy for Clock {
 
     ghost keeps = { λ p q m a. subst (λ (r : Held). Keeps false m (meaning (held p)) (meaning r)) (sym a.step) (Keeping.keeps m (held p) (sound p) a.call) };
 
+    #[tactic(auto, using(crate::specs::Told::rows_active))]
     fn begin(&mut self, task: u8) -> Result<Granted, PolicyFault> {
-        if task as usize >= TASKS || self.transaction(task).is_some() {
-            return Err(PolicyFault::Unfit);
-        }
-        let transaction = Transaction::begin(self.clock);
-        self.set_transaction(task, Some(transaction));
+        self.transactions.idle(task)?;
+        self.transactions.begin(task, self.clock);
         Ok(Granted)
     }
 
     fn read(&mut self, task: u8, variable: u8) -> Result<Granted, PolicyFault> {
-        let Some(transaction) = self.transaction(task) else {
-            return Err(PolicyFault::Unfit);
-        };
-        if !is_variable(variable) {
-            return Err(PolicyFault::Unfit);
-        }
+        let transaction = self.transactions.accessed(task, variable)?;
         if !transaction.writes.has(variable)
-            && self.versions[variable as usize] > transaction.read_version
+            && self.versions[usize::from(variable)] > transaction.note
         {
-            self.set_transaction(task, None);
+            self.transactions.end(task);
             return Err(PolicyFault::ReadBarred(variable));
         }
-        self.set_transaction(task, Some(transaction.with_read(variable)));
+        self.transactions.read(task, variable);
         Ok(Granted)
     }
 
     fn write(&mut self, task: u8, variable: u8) -> Result<Granted, PolicyFault> {
-        let Some(transaction) = self.transaction(task) else {
-            return Err(PolicyFault::Unfit);
-        };
-        if !is_variable(variable) {
-            return Err(PolicyFault::Unfit);
-        }
-        self.set_transaction(task, Some(transaction.with_write(variable)));
+        self.transactions.accessed(task, variable)?;
+        self.transactions.write(task, variable);
         Ok(Granted)
     }
 
     fn commit(&mut self, task: u8) -> Result<Granted, PolicyFault> {
-        let Some(transaction) = self.transaction(task) else {
-            return Err(PolicyFault::Unfit);
-        };
+        let transaction = self.transactions.open(task)?;
         if (Self::STRICT || !transaction.writes.is_empty())
             && is_stale(&self.versions, transaction)
         {
-            self.set_transaction(task, None);
+            self.transactions.end(task);
             return Err(PolicyFault::CommitRefused);
         }
         self.publish(transaction.writes);
-        self.set_transaction(task, None);
+        self.transactions.end(task);
         Ok(Granted)
     }
 
     fn abort(&mut self, task: u8) -> Result<Granted, PolicyFault> {
-        if self.transaction(task).is_none() {
-            return Err(PolicyFault::Unfit);
-        }
-        self.set_transaction(task, None);
+        self.transactions.open(task)?;
+        self.transactions.end(task);
         Ok(Granted)
     }
 
     fn is_behind(&self, task: u8) -> Result<bool, PolicyFault> {
-        match self.transaction(task) {
-            Some(transaction) => Ok(is_stale(&self.versions, transaction)),
-            None => Err(PolicyFault::Unfit),
-        }
+        let transaction = self.transactions.open(task)?;
+        Ok(is_stale(&self.versions, transaction))
     }
 
     fn has_written(&self, task: u8, variable: u8) -> Result<bool, PolicyFault> {
-        match self.transaction(task) {
-            Some(transaction) if is_variable(variable) => Ok(transaction.writes.has(variable)),
-            _ => Err(PolicyFault::Unfit),
-        }
+        let transaction = self.transactions.accessed(task, variable)?;
+        Ok(transaction.writes.has(variable))
     }
 }

@@ -11,10 +11,10 @@ mod calls;
 mod changes;
 mod renumbering;
 mod state;
-mod transaction;
 
-use policy::{TASKS, VARIABLES};
+use policy::VARIABLES;
 pub use state::Clock;
+use transactions::Transactions;
 
 impl Clock {
     pub fn new(start: u32) -> Clock
@@ -24,7 +24,7 @@ impl Clock {
         Clock {
             clock: start,
             versions: [0; VARIABLES],
-            transactions: [None; TASKS],
+            transactions: Transactions::new(),
         }
     }
 

@@ -5,63 +5,16 @@
 mod tests {
     use clock::Clock;
     use policy::{Granted, Policy, PolicyFault};
-    use std::process::Abort;
-
-    #[derive(Clone, Copy)]
-    enum Call {
-        Begin(u8),
-        Read(u8, u8),
-        Write(u8, u8),
-        Commit(u8),
-        Abort(u8),
-    }
-
-    // A call and what it answers: nothing if it is granted, else the fault.
-    #[derive(Clone, Copy)]
-    struct Step {
-        call: Call,
-        fault: Option<PolicyFault>,
-    }
-
-    fn ok(call: Call) -> Step {
-        Step { call, fault: None }
-    }
-
-    fn no(call: Call, fault: PolicyFault) -> Step {
-        Step {
-            call,
-            fault: Some(fault),
-        }
-    }
-
-    fn made(clock: &mut Clock, call: Call) -> Result<Granted, PolicyFault> {
-        match call {
-            Call::Begin(t) => clock.begin(t),
-            Call::Read(t, v) => clock.read(t, v),
-            Call::Write(t, v) => clock.write(t, v),
-            Call::Commit(t) => clock.commit(t),
-            Call::Abort(t) => clock.abort(t),
-        }
-    }
-
-    fn run(rt: &impl Abort, clock: &mut Clock, steps: &[Step]) {
-        for step in steps {
-            assert_eq!(rt; made(clock, step.call).err(), step.fault);
-        }
-    }
 
     // The clock is renumbered before it rises, with the committing task counted.
     #[test]
     fn renumbers_at_the_top(rt: HostRuntime) {
         let mut clock = Clock::new(u32::MAX);
-        let steps = [
-            ok(Call::Begin(0)),
-            ok(Call::Begin(1)),
-            ok(Call::Write(1, 5)),
-            ok(Call::Commit(1)),
-            no(Call::Read(0, 5), PolicyFault::ReadBarred(5)),
-        ];
-        run(&rt, &mut clock, &steps);
+        assert_eq!(rt; clock.begin(0), Ok(Granted));
+        assert_eq!(rt; clock.begin(1), Ok(Granted));
+        assert_eq!(rt; clock.write(1, 5), Ok(Granted));
+        assert_eq!(rt; clock.commit(1), Ok(Granted));
+        assert_eq!(rt; clock.read(0, 5), Err(PolicyFault::ReadBarred(5)));
         assert_eq!(rt; clock.clock(), 2);
     }
 
@@ -69,18 +22,15 @@ mod tests {
     #[test]
     fn counts_the_committing_task(rt: HostRuntime) {
         let mut clock = Clock::new(u32::MAX - 1);
-        let steps = [
-            ok(Call::Begin(0)),
-            ok(Call::Begin(1)),
-            ok(Call::Write(1, 5)),
-            ok(Call::Commit(1)),
-            ok(Call::Begin(2)),
-            ok(Call::Write(0, 6)),
-            ok(Call::Commit(0)),
-            ok(Call::Read(2, 5)),
-            no(Call::Read(2, 6), PolicyFault::ReadBarred(6)),
-        ];
-        run(&rt, &mut clock, &steps);
+        assert_eq!(rt; clock.begin(0), Ok(Granted));
+        assert_eq!(rt; clock.begin(1), Ok(Granted));
+        assert_eq!(rt; clock.write(1, 5), Ok(Granted));
+        assert_eq!(rt; clock.commit(1), Ok(Granted));
+        assert_eq!(rt; clock.begin(2), Ok(Granted));
+        assert_eq!(rt; clock.write(0, 6), Ok(Granted));
+        assert_eq!(rt; clock.commit(0), Ok(Granted));
+        assert_eq!(rt; clock.read(2, 5), Ok(Granted));
+        assert_eq!(rt; clock.read(2, 6), Err(PolicyFault::ReadBarred(6)));
         assert_eq!(rt; clock.clock(), 3);
     }
 
@@ -88,12 +38,9 @@ mod tests {
     #[test]
     fn a_read_only_commit_raises_nothing(rt: HostRuntime) {
         let mut clock = Clock::new(u32::MAX);
-        let steps = [
-            ok(Call::Begin(0)),
-            ok(Call::Read(0, 63)),
-            ok(Call::Commit(0)),
-        ];
-        run(&rt, &mut clock, &steps);
+        assert_eq!(rt; clock.begin(0), Ok(Granted));
+        assert_eq!(rt; clock.read(0, 63), Ok(Granted));
+        assert_eq!(rt; clock.commit(0), Ok(Granted));
         assert_eq!(rt; clock.clock(), u32::MAX);
     }
 
@@ -101,65 +48,47 @@ mod tests {
     #[test]
     fn behind_and_read_only(rt: HostRuntime) {
         let mut clock = Clock::new(0);
-        let before = [
-            ok(Call::Begin(0)),
-            ok(Call::Read(0, 5)),
-            ok(Call::Begin(1)),
-            ok(Call::Write(1, 5)),
-        ];
-        run(&rt, &mut clock, &before);
+        assert_eq!(rt; clock.begin(0), Ok(Granted));
+        assert_eq!(rt; clock.read(0, 5), Ok(Granted));
+        assert_eq!(rt; clock.begin(1), Ok(Granted));
+        assert_eq!(rt; clock.write(1, 5), Ok(Granted));
         assert_eq!(rt; clock.is_behind(0), Ok(false));
-        run(&rt, &mut clock, &[ok(Call::Commit(1))]);
+        assert_eq!(rt; clock.commit(1), Ok(Granted));
         assert_eq!(rt; clock.is_behind(0), Ok(true));
-        run(
-            &rt,
-            &mut clock,
-            &[ok(Call::Read(0, 6)), ok(Call::Commit(0))],
-        );
+        assert_eq!(rt; clock.read(0, 6), Ok(Granted));
+        assert_eq!(rt; clock.commit(0), Ok(Granted));
     }
 
     // One that wrote something is refused, and its transaction has ended.
     #[test]
     fn behind_and_written(rt: HostRuntime) {
         let mut clock = Clock::new(0);
-        let steps = [
-            ok(Call::Begin(0)),
-            ok(Call::Read(0, 5)),
-            ok(Call::Begin(1)),
-            ok(Call::Write(1, 5)),
-            ok(Call::Commit(1)),
-            ok(Call::Write(0, 6)),
-        ];
-        run(&rt, &mut clock, &steps);
+        assert_eq!(rt; clock.begin(0), Ok(Granted));
+        assert_eq!(rt; clock.read(0, 5), Ok(Granted));
+        assert_eq!(rt; clock.begin(1), Ok(Granted));
+        assert_eq!(rt; clock.write(1, 5), Ok(Granted));
+        assert_eq!(rt; clock.commit(1), Ok(Granted));
+        assert_eq!(rt; clock.write(0, 6), Ok(Granted));
         assert_eq!(rt; clock.has_written(0, 6), Ok(true));
-        let ended = [
-            no(Call::Commit(0), PolicyFault::CommitRefused),
-            no(Call::Commit(0), PolicyFault::Unfit),
-        ];
-        run(&rt, &mut clock, &ended);
+        assert_eq!(rt; clock.commit(0), Err(PolicyFault::CommitRefused));
+        assert_eq!(rt; clock.commit(0), Err(PolicyFault::Unfit));
     }
 
     #[test]
     fn unfit_calls(rt: HostRuntime) {
         let mut clock = Clock::new(0);
-        let steps = [
-            no(Call::Begin(8), PolicyFault::Unfit),
-            ok(Call::Begin(7)),
-            no(Call::Begin(7), PolicyFault::Unfit),
-            ok(Call::Read(7, 63)),
-            no(Call::Read(7, 64), PolicyFault::Unfit),
-            ok(Call::Write(7, 63)),
-            no(Call::Write(7, 64), PolicyFault::Unfit),
-        ];
-        run(&rt, &mut clock, &steps);
+        assert_eq!(rt; clock.begin(8), Err(PolicyFault::Unfit));
+        assert_eq!(rt; clock.begin(7), Ok(Granted));
+        assert_eq!(rt; clock.begin(7), Err(PolicyFault::Unfit));
+        assert_eq!(rt; clock.read(7, 63), Ok(Granted));
+        assert_eq!(rt; clock.read(7, 64), Err(PolicyFault::Unfit));
+        assert_eq!(rt; clock.write(7, 63), Ok(Granted));
+        assert_eq!(rt; clock.write(7, 64), Err(PolicyFault::Unfit));
         assert_eq!(rt; clock.has_written(7, 63), Ok(true));
         assert_eq!(rt; clock.has_written(7, 64), Err(PolicyFault::Unfit));
         assert_eq!(rt; clock.is_behind(8), Err(PolicyFault::Unfit));
-        let ends = [
-            no(Call::Abort(6), PolicyFault::Unfit),
-            ok(Call::Abort(7)),
-            no(Call::Commit(7), PolicyFault::Unfit),
-        ];
-        run(&rt, &mut clock, &ends);
+        assert_eq!(rt; clock.abort(6), Err(PolicyFault::Unfit));
+        assert_eq!(rt; clock.abort(7), Ok(Granted));
+        assert_eq!(rt; clock.commit(7), Err(PolicyFault::Unfit));
     }
 }

@@ -24,16 +24,6 @@ impl<P: Policy> Eager<P> {
         Eager { below }
     }
 
-    // Whether an open task is behind.
-    fn lags(&self, task: u8) -> bool
-        ensures { result ≡ (fit_task (P.Policy.facts self.now.below) task && (P.Policy.facts self.now.below).behind task) }
-    {
-        match self.is_behind(task) {
-            Ok(behind) => behind,
-            Err(_) => false,
-        }
-    }
-
     // Ends the transaction of an open task below.
     fn abort_below(&mut self, task: u8)
         ensures { fit_task (P.Policy.facts self.old.below) task ≡ true → P.Policy.after self.old.below (aborts task) self.new.below }
@@ -77,25 +67,20 @@ impl<P: Policy> Policy for Eager<P> {
 
     // What the task has written itself it may still read.
     fn read(&mut self, task: u8, variable: u8) -> Result<Granted, PolicyFault> {
-        let behind = self.lags(task);
-        match self.has_written(task, variable) {
-            Ok(false) if behind => {
-                self.abort_below(task);
-                Err(PolicyFault::ReadBarred(variable))
-            }
-            _ => self.below.read(task, variable),
+        if self.is_behind(task)? && !self.has_written(task, variable)? {
+            self.abort_below(task);
+            return Err(PolicyFault::ReadBarred(variable));
         }
+        self.below.read(task, variable)
     }
 
     fn write(&mut self, task: u8, variable: u8) -> Result<Granted, PolicyFault> {
-        let behind = self.lags(task);
-        match self.has_written(task, variable) {
-            Ok(_) if behind => {
-                self.abort_below(task);
-                Err(PolicyFault::WriteBarred(variable))
-            }
-            _ => self.below.write(task, variable),
+        self.has_written(task, variable)?;
+        if self.is_behind(task)? {
+            self.abort_below(task);
+            return Err(PolicyFault::WriteBarred(variable));
         }
+        self.below.write(task, variable)
     }
 
     fn commit(&mut self, task: u8) -> Result<Granted, PolicyFault> {

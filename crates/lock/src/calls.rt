@@ -34,19 +34,23 @@ impl Lock {
     fn is_locked_by_other(&self, task: u8, variable: u8) -> bool
         ensures { result ≡ locked_by_other (held self.now) task variable }
     {
-        for other in 0..TASKS as u8 {
-            if other != task && self.locks(other, variable) {
-                return true;
-            }
+        (0..TASKS as u8).any(|other| other != task && self.locks(other, variable))
+    }
+
+    // A copy of the transactions, to be changed and put in their place whole.
+    fn copied(&self) -> Transactions<()>
+        ensures { result ≡ self.now.transactions }
+    {
+        Transactions {
+            rows: self.transactions.rows,
         }
-        false
     }
 
     // Ends the task's transaction, and with it its locks.
     fn release(&mut self, task: u8)
         ensures { held self.new ≡ ended task (held self.old) }
     {
-        let mut next = self.transactions;
+        let mut next = self.copied();
         next.end(task);
         *self = Lock { transactions: next };
     }
@@ -80,38 +84,32 @@ impl Policy for Lock {
     ghost keeps = { λ p q m a. subst (λ s. Keeps true m (facts_of (held p)) (facts_of s)) (sym a.sets) (KeepsProof.keeps (held p) (sound p.transactions) p.apart m a.call) };
 
     fn begin(&mut self, task: u8) -> Result<Granted, PolicyFault> {
-        if !self.transactions.is_idle(task) {
-            return Err(PolicyFault::Unfit);
-        }
-        let mut next = self.transactions;
-        next.begin(task);
+        self.transactions.idle(task)?;
+        let mut next = self.copied();
+        next.begin(task, ());
         *self = Lock { transactions: next };
         Ok(Granted)
     }
 
     fn read(&mut self, task: u8, variable: u8) -> Result<Granted, PolicyFault> {
-        if !self.transactions.takes(task, variable) {
-            return Err(PolicyFault::Unfit);
-        }
+        self.transactions.accessed(task, variable)?;
         if self.is_locked_by_other(task, variable) {
             self.release(task);
             return Err(PolicyFault::ReadBarred(variable));
         }
-        let mut next = self.transactions;
+        let mut next = self.copied();
         next.read(task, variable);
         *self = Lock { transactions: next };
         Ok(Granted)
     }
 
     fn write(&mut self, task: u8, variable: u8) -> Result<Granted, PolicyFault> {
-        if !self.transactions.takes(task, variable) {
-            return Err(PolicyFault::Unfit);
-        }
+        self.transactions.accessed(task, variable)?;
         if self.is_locked_by_other(task, variable) {
             self.release(task);
             return Err(PolicyFault::WriteBarred(variable));
         }
-        let mut next = self.transactions;
+        let mut next = self.copied();
         next.write(task, variable);
         *self = Lock { transactions: next };
         Ok(Granted)
@@ -123,26 +121,17 @@ impl Policy for Lock {
     }
 
     fn abort(&mut self, task: u8) -> Result<Granted, PolicyFault> {
-        if !self.transactions.is_open(task) {
-            return Err(PolicyFault::Unfit);
-        }
+        self.transactions.open(task)?;
         self.release(task);
         Ok(Granted)
     }
 
     fn is_behind(&self, task: u8) -> Result<bool, PolicyFault> {
-        if self.transactions.is_open(task) {
-            Ok(false)
-        } else {
-            Err(PolicyFault::Unfit)
-        }
+        self.transactions.open(task).map(|_| false)
     }
 
     fn has_written(&self, task: u8, variable: u8) -> Result<bool, PolicyFault> {
-        if self.transactions.takes(task, variable) {
-            Ok(self.transactions.has_written(task, variable))
-        } else {
-            Err(PolicyFault::Unfit)
-        }
+        let transaction = self.transactions.accessed(task, variable)?;
+        Ok(transaction.writes.has(variable))
     }
 }

@@ -9,8 +9,9 @@ use transactions::Transactions;
 mod calls;
 
 // The read set and the write set of each open task are its locks; no variable is locked by two tasks.
+// No impl Model: what it holds is seen by functions, and a function has no code.
 #[derive(Drop)]
 pub struct Lock {
-    transactions: Transactions,
+    transactions: Transactions<()>,
     ghost apart: { Apart (sets transactions) },
 }

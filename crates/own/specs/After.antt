@@ -3,12 +3,12 @@ use Rattle.std.specs.Prelude.{◌≡◌, true}
 use Rattle.policy.specs.Facts.{Facts}
 use Rattle.policy.specs.Moves.{Move}
 use Rattle.policy.specs.Due.{due}
-use Rattle.transactions.specs.Rows.{sets}
+use Rattle.transactions.specs.Rows.{sets, notes}
 use Rattle.own.specs.Ownership.{State, state_of, facts_of, next}
 use Rattle.own.specs.declared.Own.{Own}
 
 abbrev pub state : Own → State
-state p = state_of (sets p.transactions) p.behind
+state p = state_of (sets p.transactions) (notes p.transactions)
 
 abbrev pub facts : Own → Facts
 facts p = facts_of (state p)

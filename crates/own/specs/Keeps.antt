@@ -78,7 +78,7 @@ module _ (x : State) (h : Sound x.sets) (t : ℕ) where
         falls_behind = λ v r w.
             let c : conflict x.sets u t ≡ true = some_below_member variables (λ y. x.sets.reads u y && x.sets.writes t y) v (h.read_below u v r) (and_from _ _ r w) in
             grind arith;
-        only_so = λ k. why (or_cases (x.flags u) (conflict x.sets u t) (and_parts _ _ k).1);
+        only_so = λ k. why (or_cases (x.flags u) (conflict x.sets u t) (and_parts _ _ (and_parts _ _ k).1).0);
         fenced = λ k. record {
           kept = λ v l. grind arith;
           gains = λ v w. let l : nat_lt v variables ≡ true = lt-ltb v variables (h.written_below t v w) in grind arith;

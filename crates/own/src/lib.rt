@@ -6,6 +6,7 @@ ghost use Rattle.std.proofs.Common.{sym, subst, rules};
 ghost use Rattle.policy.specs.Facts.{Fresh, may_commit};
 ghost use Rattle.policy.specs.Moves.{abort as aborts, commit as commits, Keeps};
 ghost use Rattle.own.specs.Ownership.{idle, owned_by_other, Overtaken, next, facts_of};
+ghost use Rattle.varset.specs.Members.{member};
 ghost use Rattle.own.specs.After.{state, facts as own_facts, After};
 ghost use Rattle.transactions.proofs.Sound.{sound};
 ghost use Rattle.own.specs.Bars;
@@ -13,12 +14,20 @@ ghost use Rattle.own.specs.Keeps as KeepsProof;
 
 use policy::{Granted, Policy, PolicyFault, TASKS};
 use transactions::Transactions;
+use varset::VarSet;
 
-// The flag of a task that isn't open counts for nothing.
+// How a transaction stands to what was committed since it began.
+#[derive(Clone, Copy, PartialEq, Eq)]
+enum Standing {
+    InTime,
+    // something that it has read was written since
+    Behind,
+}
+
+// No impl Model: what it holds is seen by functions, and a function has no code.
 #[derive(Drop)]
 pub struct Own {
-    transactions: Transactions,
-    behind: [bool; TASKS],
+    transactions: Transactions<Standing>,
 }
 
 impl Own {
@@ -27,59 +36,29 @@ impl Own {
         ensures holds { state result ≡ idle }
     {
         let transactions = Transactions::new();
-        Own {
-            transactions,
-            behind: [false; TASKS],
-        }
-    }
-
-    // Whether an open task is behind.
-    fn lags(&self, task: u8) -> bool
-        ensures { result ≡ (own_facts self.now).behind task }
-    {
-        self.transactions.is_open(task) && self.behind[task as usize]
+        Own { transactions }
     }
 
     // Whether another task owns the variable.
     fn is_owned_by_other(&self, task: u8, variable: u8) -> bool
         ensures { result ≡ owned_by_other (state self.now).sets task variable }
     {
-        for other in 0..TASKS as u8 {
-            if other != task && self.transactions.has_written(other, variable) {
-                return true;
+        (0..TASKS as u8).any(|other| other != task
+            && self.transactions.has_written(other, variable))
+    }
+
+    // Who has read what was written falls behind.
+    fn overtake(&mut self, written: VarSet)
+        ensures { Overtaken (member written) self.old.transactions.rows self.new.transactions.rows }
+    {
+        // not flattened: of what an adapter of iter_mut wrote a proof knows nothing afterwards
+        for row in self.transactions.rows.iter_mut() {
+            if let Some(transaction) = row {
+                if transaction.reads.meets(written) {
+                    transaction.note = Standing::Behind;
+                }
             }
         }
-        false
-    }
-
-    // The flags, with those raised whose task has read what the task has written.
-    fn overtaken(&self, task: u8) -> [bool; TASKS]
-        ensures { Overtaken (state self.now).sets task self.now.behind result }
-    {
-        let mut behind = self.behind;
-        for other in 0..TASKS {
-            if self.transactions.conflict(other as u8, task) {
-                behind[other] = true;
-            }
-        }
-        behind
-    }
-
-    // Whether a commit of the task would be granted.
-    fn may_commit(&self, task: u8) -> bool
-        ensures { result ≡ may_commit true (own_facts self.now) task }
-    {
-        let refused = self.lags(task)
-            && (Self::STRICT || !self.transactions.write_set(task).is_empty());
-        !refused
-    }
-
-    // Ends the task's transaction with a commit: who has read what it wrote falls behind.
-    fn finish(&mut self, task: u8)
-        ensures { state self.new ≡ next (commits task) (state self.old) }
-    {
-        self.behind = self.overtaken(task);
-        self.end(task);
     }
 
     // Ends the task's transaction with nothing shared.
@@ -118,20 +97,15 @@ impl Policy for Own {
     ghost keeps = { λ p q m a. subst (λ x. Keeps true m (facts_of (state p)) (facts_of x)) (sym a.holds) (KeepsProof.keeps (state p) (sound p.transactions) m a.call) };
 
     fn begin(&mut self, task: u8) -> Result<Granted, PolicyFault> {
-        if !self.transactions.is_idle(task) {
-            return Err(PolicyFault::Unfit);
-        }
-        self.transactions.begin(task);
-        self.behind[task as usize] = false;
+        self.transactions.idle(task)?;
+        self.transactions.begin(task, Standing::InTime);
         Ok(Granted)
     }
 
     // A task that is behind may still read what it has written itself.
     fn read(&mut self, task: u8, variable: u8) -> Result<Granted, PolicyFault> {
-        if !self.transactions.takes(task, variable) {
-            return Err(PolicyFault::Unfit);
-        }
-        if self.lags(task) && !self.transactions.has_written(task, variable) {
+        let transaction = self.transactions.accessed(task, variable)?;
+        if transaction.note == Standing::Behind && !transaction.writes.has(variable) {
             self.end(task);
             return Err(PolicyFault::ReadBarred(variable));
         }
@@ -140,9 +114,7 @@ impl Policy for Own {
     }
 
     fn write(&mut self, task: u8, variable: u8) -> Result<Granted, PolicyFault> {
-        if !self.transactions.takes(task, variable) {
-            return Err(PolicyFault::Unfit);
-        }
+        self.transactions.accessed(task, variable)?;
         if self.is_owned_by_other(task, variable) {
             self.end(task);
             return Err(PolicyFault::WriteBarred(variable));
@@ -152,38 +124,30 @@ impl Policy for Own {
     }
 
     fn commit(&mut self, task: u8) -> Result<Granted, PolicyFault> {
-        if !self.transactions.is_open(task) {
-            return Err(PolicyFault::Unfit);
-        }
-        if !self.may_commit(task) {
+        let transaction = self.transactions.open(task)?;
+        let behind = transaction.note == Standing::Behind;
+        if behind && (Self::STRICT || !transaction.writes.is_empty()) {
             self.end(task);
             return Err(PolicyFault::CommitRefused);
         }
-        self.finish(task);
+        self.overtake(transaction.writes);
+        self.end(task);
         Ok(Granted)
     }
 
     fn abort(&mut self, task: u8) -> Result<Granted, PolicyFault> {
-        if !self.transactions.is_open(task) {
-            return Err(PolicyFault::Unfit);
-        }
+        self.transactions.open(task)?;
         self.end(task);
         Ok(Granted)
     }
 
     fn is_behind(&self, task: u8) -> Result<bool, PolicyFault> {
-        if self.transactions.is_open(task) {
-            Ok(self.lags(task))
-        } else {
-            Err(PolicyFault::Unfit)
-        }
+        let transaction = self.transactions.open(task)?;
+        Ok(transaction.note == Standing::Behind)
     }
 
     fn has_written(&self, task: u8, variable: u8) -> Result<bool, PolicyFault> {
-        if self.transactions.takes(task, variable) {
-            Ok(self.transactions.has_written(task, variable))
-        } else {
-            Err(PolicyFault::Unfit)
-        }
+        let transaction = self.transactions.accessed(task, variable)?;
+        Ok(transaction.writes.has(variable))
     }
 }

@@ -3,3 +3,4 @@ mod Masks
 mod HowMany
 pub mod Below
 pub mod Visiting
+pub mod Listing

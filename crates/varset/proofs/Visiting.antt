@@ -1,9 +1,7 @@
 -- What a loop does that goes through the members of a set one by one.
-use Rattle.std.proofs.Common.{◌≡◌, ℕ, ◌<◌, Bool, true, false, cond, ◌&&◌, eqb, ◌≢◌, ◌⊎◌, List, length, get_or, set, sym, ap, ◌∙◌, inl, inr, arith, get_or-set_other, get_or-set_same}
-use Rattle.std.proofs.lemmas.Bool.{cases_Bool, and_from, and_left, and_right, eqb-true, eqb-false}
-use Rattle.policy.specs.Facts.{some_below}
+use Rattle.std.proofs.Common.{◌≡◌, ℕ, ◌<◌, Bool, true, false, cond, eqb, ◌≢◌, ◌⊎◌, List, length, get_or, set, sym, ap, ◌∙◌, inl, inr, arith, get_or-set_other, get_or-set_same}
+use Rattle.std.proofs.lemmas.Bool.{cases_Bool, eqb-true, eqb-false}
 use Rattle.varset.specs.Members.{minus, Empty}
-use Rattle.policy.proofs.SomeBelow.{some_below_member, some_below_same, some_below_empty}
 
 module _ {A : Type 0} (none : A) (new : ℕ → A) where
   -- a list once the places in the set have their new values
@@ -30,26 +28,3 @@ module _ {A : Type 0} (none : A) (new : ℕ → A) where
   -- with no place left, all is renewed
   pub renewed_all : (rest : ℕ → Bool) (xs : List A) → Empty rest → (v : ℕ) → renewed rest xs v ≡ get_or xs v none
   renewed_all rest xs e v = rw (e v)
-
-module _ (n : ℕ) (test : ℕ → Bool) where
-  -- some place of the set passes a test
-  abbrev pub some_in : (ℕ → Bool) → Bool
-  some_in places = some_below n (λ v. places v && test v)
-
-  -- one that passes is enough
-  pub some_in_found : (rest : ℕ → Bool) (w : ℕ) → w < n → rest w ≡ true → test w ≡ true → some_in rest ≡ true
-  some_in_found rest w h i p = some_below_member n (λ v. rest v && test v) w h (and_from (rest w) (test w) i p)
-
-  -- one that doesn't pass needn't be tested any more
-  pub some_in_step : (rest after : ℕ → Bool) (w : ℕ) → test w ≡ false → ((v : ℕ) → after v ≡ minus rest w v) → some_in after ≡ some_in rest
-  some_in_step rest after w f a = some_below_same n (λ v. after v && test v) (λ v. rest v && test v) (λ v h. go v (cases_Bool (eqb v w)))
-    where
-      go : (v : ℕ) → (eqb v w ≡ true) ⊎ (eqb v w ≡ false) → (after v && test v) ≡ (rest v && test v)
-      go v (inl e) =
-          let out : test v ≡ false = ap test (eqb-true v w e) ∙ f in
-          and_right (after v) (test v) out ∙ sym (and_right (rest v) (test v) out)
-      go v (inr e) = let m = a v in grind arith
-
-  -- with no place left, none passes
-  pub some_in_none : (rest : ℕ → Bool) → Empty rest → some_in rest ≡ false
-  some_in_none rest e = some_below_empty n (λ v. rest v && test v) (λ v h. and_left (rest v) (test v) (e v))

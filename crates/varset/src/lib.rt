@@ -19,27 +19,31 @@ type Mask = u64;
 pub fn is_variable(variable: u8) -> bool
     ensures { result ≡ everything variable }
 {
-    (variable as usize) < VARIABLES
+    usize::from(variable) < VARIABLES
 }
 
-#[derive(Clone, Copy)]
+// No impl Model: a set is seen by its membership test, a function, which has no code.
+#[derive(Clone, Copy, Debug, PartialEq, Eq)]
 pub struct VarSet {
     mask: Mask,
 }
 
 impl VarSet {
+    #[tactic(auto, using(crate::proofs::Masks::inside_zero), unfolding(crate::specs::Members::member))]
     pub fn empty() -> VarSet
         ensures { Holds result nothing }
     {
         VarSet { mask: 0 }
     }
 
+    #[tactic(auto, using(crate::proofs::Masks::inside_ones), unfolding(crate::specs::Members::member))]
     pub fn all() -> VarSet
         ensures { Holds result everything }
     {
         VarSet { mask: Mask::MAX }
     }
 
+    #[tactic(auto, using(crate::proofs::Masks::bit_test), unfolding(crate::specs::Members::member))]
     pub fn has(self, variable: u8) -> bool
         ensures { result ≡ member self variable }
     {
@@ -47,6 +51,7 @@ impl VarSet {
     }
 
     // The set and the variable, if there is such a one.
+    #[tactic(auto, using(crate::proofs::Masks::inside_with), unfolding(crate::specs::Members::member))]
     pub fn with(self, variable: u8) -> VarSet
         ensures { Holds result (plus (member self) variable) }
     {
@@ -60,6 +65,7 @@ impl VarSet {
     }
 
     // The set and not the variable.
+    #[tactic(auto, using(crate::proofs::Masks::inside_without, crate::proofs::Masks::inside_beyond), unfolding(crate::specs::Members::member))]
     fn without(self, variable: u8) -> VarSet
         ensures { Holds result (minus (member self) variable) }
     {
@@ -102,6 +108,7 @@ impl VarSet {
         self.mask & other.mask != 0
     }
 
+    #[tactic(auto, using(crate::proofs::Masks::inside_or), unfolding(crate::specs::Members::member))]
     pub fn union(self, other: VarSet) -> VarSet
         ensures { Holds result (either (member self) (member other)) }
     {

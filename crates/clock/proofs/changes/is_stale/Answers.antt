@@ -1,39 +1,26 @@
-use Rattle.std.proofs.Common.{◌≡◌, ℕ, ◌<◌, Bool, true, false, ltb, get_or, sym, ap, ◌∙◌}
-use Rattle.std.proofs.lemmas.Bool.{lt-ltb, le-ltb}
+use Rattle.std.proofs.Common.{ℕ, rules, Bool, ◌&&◌, ltb, get_or, sym, ap, ap₂, ◌∙◌}
+use Rattle.std.proofs.lemmas.Iterator.Adapters.{serves_from_places}
+use Rattle.std.proofs.lemmas.Iterator.Search.{any_from_yields_List}
+use borrow.Author.Tests.{tests}
 use Rattle.policy.specs.Limits.{variables}
+use Rattle.policy.proofs.SomeBelow.{some_below_same}
 use Rattle.varset.specs.Members.{member}
-use Rattle.varset.proofs.Below.{member_below}
-use Rattle.varset.proofs.Visiting.{some_in_found, some_in_step, some_in_none}
-use Rattle.clock.specs.Rows.{numbers}
+use Rattle.varset.specs.declared.VarSet.{VarSet}
 use Rattle.clock.proofs.Reading.{number_at}
+use Rattle.varset.proofs.Listing.{gives_members, members_below, some_member}
 use Rattle.clock.proofs.changes.is_stale.Goals as goal
 
-pub bounds-versions-v : goal.bounds-versions-v
-bounds-versions-v c = member_below c.loop-v.v-iterator.rest c.in-Some.v c.in-Some.ensures.steps.0.in_set
-
-pub returns-then-versions-v : goal.returns-then-versions-v
-returns-then-versions-v c =
-    let since : ℕ → Bool = λ v. ltb c.args.x.read_version (numbers c.args.versions.now v) in
-    let rest = c.loop-v.v-iterator.rest in
-    let in_rest = c.in-Some.ensures.steps.0.in_set in
-    let here : c.in-Some.v < variables = member_below rest c.in-Some.v in_rest in
-    let newer : since c.in-Some.v ≡ true =
-    ap (ltb c.args.x.read_version) (number_at c.args.versions.now c.in-Some.v here)
-    ∙ lt-ltb c.args.x.read_version (get_or c.args.versions.now c.in-Some.v 0) c.if-versions-v.true in
-    sym (some_in_found variables since (member rest) c.in-Some.v here in_rest newer) ∙ c.loop-v.invariant.2
-
-pub loop-v-preserved : goal.loop-v-preserved
-loop-v-preserved c =
-    let since : ℕ → Bool = λ v. ltb c.args.x.read_version (numbers c.args.versions.now v) in
-    let rest = c.loop-v.v-iterator.rest in
-    let steps = c.in-Some.ensures.steps in
-    let here : c.in-Some.v < variables = member_below rest c.in-Some.v steps.0.in_set in
-    let old : since c.in-Some.v ≡ false =
-    ap (ltb c.args.x.read_version) (number_at c.args.versions.now c.in-Some.v here)
-    ∙ le-ltb c.args.x.read_version (get_or c.args.versions.now c.in-Some.v 0) c.if-versions-v.false in
-    (tt, tt, some_in_step variables since (member rest) (member c.next.new.self.rest) c.in-Some.v old steps.1 ∙ c.loop-v.invariant.2)
+pub any-requires-clause-callable : goal.any-requires-clause-callable
+any-requires-clause-callable c =
+    serves_from_places (gives_members c.iter.result) (λ x q r. search rules) (λ v k h e. let b = members_below c.iter.result.rest v k h e in search rules)
 
 pub returns : goal.returns
 returns c =
-    let since : ℕ → Bool = λ v. ltb c.args.x.read_version (numbers c.args.versions.now v) in
-    sym (some_in_none variables since (member c.loop-v.v-iterator.rest) c.in-None.ensures.steps.0) ∙ c.loop-v.invariant.2
+    let versions = c.args.versions.now in
+    let newer : ℕ → Bool = λ v. ltb c.args.transaction.note (get_or versions v 0) in
+    any_from_yields_List newer _ _ c.any.result c.any.ensures.ran (gives_members c.iter.result) (λ v b q k. search (rules, tests))
+    ∙ some_member c.iter.result.rest newer
+    ∙ some_below_same variables _ _
+    (λ v h.
+    ap₂ ◌&&◌ (ap (λ (s : VarSet). member s v) c.iter.ensures)
+    (ap (ltb c.args.transaction.note) (sym (number_at versions v h))))

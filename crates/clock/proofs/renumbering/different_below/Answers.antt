@@ -1,12 +1,13 @@
-use Rattle.std.proofs.Common.{◌≡◌, ℕ, ◌<◌, List, sym, ap, ◌∙◌, arith}
+use Rattle.std.proofs.Common.{rules, ◌≡◌, ◌<◌, Bool, true, false, get_or, None, sym, ap, ◌∙◌, arith}
 use Rattle.policy.specs.Limits.{tasks}
-use Rattle.clock.specs.Different.{among, different_below}
+use Rattle.clock.specs.Different.{different_below}
 use Rattle.clock.specs.Steps.{read_versions}
 use Rattle.clock.specs.Rows.{rows, new_number}
-use Rattle.clock.specs.Counting.{below_none, below_new, below_known, below_above, below_counts}
-use Rattle.clock.specs.ReadVersions.{read_versions_none, read_versions_idle, read_versions_begun}
+use Rattle.clock.specs.Counting.{below_none, below_counts}
+use Rattle.clock.specs.ReadVersions.{read_versions_none}
+use Rattle.clock.proofs.Counted.{is_new_below, counted_row}
 use Rattle.clock.proofs.renumbering.different_below.Goals as goal
-use Rattle.clock.proofs.renumbering.different_below.Goals.{in-Some+then-from-bound+then-not-is_read_version, in-Some+else-from-bound, else-from-bound-via-then-from-bound+else-not-is_read_version, else-from-bound-via-else-from-bound, in_default}
+use Rattle.clock.proofs.renumbering.different_below.Goals.{then-is_some_and, else-is_some_and}
 
 pub loop-t-init : goal.loop-t-init
 loop-t-init c = (
@@ -18,39 +19,19 @@ loop-t-init c = (
 
 pub loop-t-preserved : goal.loop-t-preserved
 loop-t-preserved c =
-    let there : c.loop-t.t < tasks = omega arith in
-    let ns : List ℕ = read_versions c.loop-t.t (rows c.args.transactions.now) in
-    elim c.match-transactions-t.branch [
-      | in-Some+then-from-bound+then-not-is_read_version w ↦
-          let e = read_versions_begun c.args.transactions.now c.loop-t.t there w.in-Some.x w.in-Some.is in
-          let d =
-          ap (λ ns. different_below ns c.args.bound) e
-          ∙ below_new w.in-Some.x.read_version ns c.args.bound (omega arith)
-          (sym {b = among ns w.in-Some.x.read_version} w.if-not-is_read_version.ensures) in
-          (omega (arith, d), omega arith)
-      | in-Some+else-from-bound w ↦
-          let e = read_versions_begun c.args.transactions.now c.loop-t.t there w.in-Some.x w.in-Some.is in
-          let d = ap (λ ns. different_below ns c.args.bound) e in
-          elim w.else-from-bound.branch [
-            | else-from-bound-via-then-from-bound+else-not-is_read_version w' ↦
-                let k =
-                d
-                ∙ below_known w.in-Some.x.read_version ns c.args.bound
-                (sym {b = among ns w.in-Some.x.read_version} w'.if-not-is_read_version.ensures) in
-                (omega (arith, k), omega arith)
-            | else-from-bound-via-else-from-bound w' ↦
-                let k = d ∙ below_above w.in-Some.x.read_version ns c.args.bound (omega arith) in
-                (omega (arith, k), omega arith)
-          ]
-      | in_default w ↦
-          let e = read_versions_idle c.args.transactions.now c.loop-t.t there w.in_default.not-Some in
-          let d = ap (λ ns. different_below ns c.args.bound) e in
-          (omega (arith, d), omega arith)
+    let ts = c.args.transactions.now.rows in
+    let t = c.loop-t.t-counter in
+    let new : c.is_some_and.result ≡ is_new_below ts t c.args.bound (get_or ts t None) = search rules in
+    let there : t < tasks = omega arith in
+    let more = λ (b : Bool) (e : b ≡ c.is_some_and.result). counted_row c.args.transactions.now t c.args.bound b there (e ∙ new) in
+    elim c.if-is_some_and.branch [
+      | then-is_some_and w ↦ let e = more true (sym w.if-is_some_and.true) in (omega arith, omega arith)
+      | else-is_some_and w ↦ let e = more false (sym w.if-is_some_and.false) in (omega arith, omega arith)
     ]
 
 pub returns : goal.returns
 returns c =
-    let end : c.loop-t.t ≡ tasks = omega arith in
+    let end : c.loop-t.t-counter ≡ tasks = omega arith in
     let e : c.loop-t.different ≡ new_number c.args.transactions.now c.args.bound =
     c.loop-t.invariant.0
     ∙ ap (λ t. different_below (read_versions t (rows c.args.transactions.now)) c.args.bound) end in

@@ -7,4 +7,4 @@ use Rattle.clock.proofs.renumbering.different_below.Given as goal
 -- the tasks so far are counted
 abbrev pub invariant-loop-t : goal.invariant-loop-t
 invariant-loop-t l =
-    (l.different ≡ different_below (read_versions l.t (rows l.transactions)) l.bound) × (l.different ≤ l.t)
+    (l.different ≡ different_below (read_versions l.t-counter (rows l.transactions)) l.bound) × (l.different ≤ l.t-counter)

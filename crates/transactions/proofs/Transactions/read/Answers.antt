@@ -1,21 +1,18 @@
-use Rattle.std.proofs.Common.{sym, refl, ◌∙◌}
-use Rattle.transactions.specs.Rows.{sets}
-use Rattle.transactions.proofs.Puts.{put_has_read, none_has_read, own_has_read}
+use Rattle.std.proofs.Common.{Some, sym, ap, ◌∙◌}
+use Rattle.transactions.specs.Rows.{sets, notes, note_in}
+use Rattle.transactions.proofs.Puts.{put_has_read, none_has_read, put_kept}
 use Rattle.transactions.proofs.Transactions.read.Goals as goal
 
-pub returns-then-not-has : goal.returns-then-not-has
+pub returns-in-Some-clause-sets : goal.returns-in-Some-clause-sets
 unfolding sets
-returns-then-not-has c =
-    put_has_read c.args.self.now.rows c.put.new.self.rows c.args.task c.args.variable
-    c.in-Some.field-0 (record { reads = c.with-reads.result; writes = c.in-Some.field-0.writes })
-    (sym c.row.ensures ∙ c.in-Some.is) c.put.ensures refl (sym c.has.ensures ∙ c.if-not-has.true) c.with-reads.ensures
+returns-in-Some-clause-sets g c =
+    put_has_read _ _ _ _ _ _ (sym c.row.ensures ∙ c.in-Some.is) c.put.ensures c.with_read.ensures.reads c.with_read.ensures.writes
 
-pub returns-else-not-has : goal.returns-else-not-has
-unfolding sets
-returns-else-not-has c =
-    own_has_read c.args.self.now.rows c.args.task c.args.variable
-    c.in-Some.field-0 (sym c.row.ensures ∙ c.in-Some.is) (sym c.has.ensures ∙ c.if-not-has.false)
+pub returns-in-Some-clause-notes : goal.returns-in-Some-clause-notes
+unfolding notes
+returns-in-Some-clause-notes g c =
+    put_kept _ _ _ _ c.put.ensures (ap (λ n. Some n) c.with_read.ensures.note ∙ ap note_in (sym c.in-Some.is ∙ c.row.ensures))
 
-pub returns-in_default : goal.returns-in_default
+pub returns-in_default-clause-sets : goal.returns-in_default-clause-sets
 unfolding sets
-returns-in_default c = none_has_read c.args.self.now.rows c.args.task c.args.variable (sym c.row.ensures ∙ c.in_default.is)
+returns-in_default-clause-sets g c = none_has_read _ _ _ (sym c.row.ensures ∙ c.in_default.is)

@@ -1,15 +1,18 @@
-use Rattle.std.proofs.Common.{sym, refl, ◌∙◌}
-use Rattle.transactions.specs.Rows.{sets}
-use Rattle.transactions.proofs.Puts.{put_has_written, none_has_written}
+use Rattle.std.proofs.Common.{Some, sym, ap, ◌∙◌}
+use Rattle.transactions.specs.Rows.{sets, notes, note_in}
+use Rattle.transactions.proofs.Puts.{put_has_written, none_has_written, put_kept}
 use Rattle.transactions.proofs.Transactions.write.Goals as goal
 
-pub returns-in-Some : goal.returns-in-Some
+pub returns-in-Some-clause-sets : goal.returns-in-Some-clause-sets
 unfolding sets
-returns-in-Some c =
-    put_has_written c.args.self.now.rows c.put.new.self.rows c.args.task c.args.variable
-    c.in-Some.field-0 (record { reads = c.in-Some.field-0.reads; writes = c.with-writes.result })
-    (sym c.row.ensures ∙ c.in-Some.is) c.put.ensures refl c.with-writes.ensures
+returns-in-Some-clause-sets g c =
+    put_has_written _ _ _ _ _ _ (sym c.row.ensures ∙ c.in-Some.is) c.put.ensures c.with_write.ensures.reads c.with_write.ensures.writes
 
-pub returns-in_default : goal.returns-in_default
+pub returns-in-Some-clause-notes : goal.returns-in-Some-clause-notes
+unfolding notes
+returns-in-Some-clause-notes g c =
+    put_kept _ _ _ _ c.put.ensures (ap (λ n. Some n) c.with_write.ensures.note ∙ ap note_in (sym c.in-Some.is ∙ c.row.ensures))
+
+pub returns-in_default-clause-sets : goal.returns-in_default-clause-sets
 unfolding sets
-returns-in_default c = none_has_written c.args.self.now.rows c.args.task c.args.variable (sym c.row.ensures ∙ c.in_default.is)
+returns-in_default-clause-sets g c = none_has_written _ _ _ (sym c.row.ensures ∙ c.in_default.is)

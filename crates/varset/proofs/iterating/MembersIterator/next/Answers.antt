@@ -6,11 +6,11 @@ use Rattle.varset.proofs.HowMany.{how_many_minus}
 use Rattle.varset.proofs.iterating.MembersIterator.next.Goals as goal
 use Rattle.std.proofs.iter.Next.{firm}
 
-pub returns : goal.returns
-returns c =
+pub returns-clause-goes : goal.returns-clause-goes
+returns-clause-goes c =
     let least = c.in_ok-first.ensures in
     let before = c.args.self.now.rest in
     let first = c.in_ok-first.first in
     let fewer = how_many_minus variables (member before) (member c.without-self.result) first (member_below before first least.in_set) least.in_set
     c.without-self.ensures in
-    record { steps = (least, c.without-self.ensures); goes = firm ((tt, tt, omega (arith, fewer))) (λ h. search rules) }
+    firm ((tt, tt, omega (arith, fewer))) (λ h. search rules)

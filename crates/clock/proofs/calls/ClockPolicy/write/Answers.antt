@@ -1,0 +1,14 @@
+use Rattle.std.proofs.Common.{rules}
+use Rattle.clock.specs.declared.state.Clock.{Clock}
+use Rattle.clock.proofs.Moving.{written_held}
+use Rattle.clock.proofs.calls.ClockPolicy.write.Goals as goal
+
+pub returns-clause-moved : goal.returns-clause-moved
+returns-clause-moved c =
+    let p : Clock = c.args.self.now in
+    record {
+      call = search rules;
+      step =
+          written_held p.clock p.versions p.transactions _ c.args.task c.args.variable c.in_ok-accessed.ensures.fit
+          (search rules) (search rules);
+    }
