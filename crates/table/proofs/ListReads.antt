@@ -43,19 +43,23 @@ module _ {P : Type 0} (stated : Ghosts P)
       same_sight : (v : ℕ) → u.stages ≡ s.stages → u.shared ≡ s.shared → sight stated.facts u t v ≡ sight stated.facts s t v
       same_sight v a b =
           let w = (so_far stated.facts stated.after stated.STRICT keeps t begun (collecting earlier.0)).writes v in
-          λ j. cond (w j) (pending_in (get_or (a j) t Idle) v) (get_or (b j) v (pos 0))
+          λ j. cond (w j) (pending_in (get_or (a j).all t Idle) v) (get_or (b j) v (pos 0))
 
       -- one more read was granted, and its value is put into the buffer
-      pub one_more : (x : ℤ) → i < length buffer → u.stages ≡ s.stages → u.shared ≡ s.shared → stated.after u.policy (reads_variable t (get_or vs i 0)) q
+      pub one_more : (x : ℤ) → i < length buffer → u.stages ≡ s.stages → u.shared ≡ s.shared → {n m : ℕ} → n ≡ t → m ≡ get_or vs i 0
+          → stated.after u.policy (reads_variable n m) q
           → x ≡ sight stated.facts u t (get_or vs i 0) → ReadBefore stated t vs s (i + 1) q (set buffer i x)
-      one_more x room stages shared m e = (reads, values)
+      one_more x room stages shared {n} {m} task_asked variable_asked moved e = (reads, values)
         where
           v : ℕ
           v = get_or vs i 0
 
+          move : stated.after u.policy (reads_variable t v) q
+          move = subst (λ (k : ℕ × ℕ). stated.after u.policy (reads_variable k.0 k.1) q) (λ j. (task_asked j, variable_asked j)) moved
+
           reads : GrantedReads stated t (take (i + 1) vs) s.policy q (i + 1)
           reads =
-              let more = collect_one stated.facts stated.after stated.STRICT keeps t v q begun (collecting earlier.0) (keeps u.policy q (reads_variable t v) m).granted m in
+              let more = collect_one stated.facts stated.after stated.STRICT keeps t v q begun (collecting earlier.0) (keeps u.policy q (reads_variable t v) move).granted move in
               rw (take_more vs i 0 here, add-one i) (collected more)
 
           same : x ≡ sight stated.facts s t v
@@ -65,22 +69,26 @@ module _ {P : Type 0} (stated : Ghosts P)
           values = take_more_set buffer i x room ∙ (λ j. earlier.1 j ++ (same j ∷ [])) ∙ sym (map_more (sight stated.facts s t) vs i 0 here)
 
       -- the policy refused the read at place i
-      pub barred_at : {x : PolicyFault} → Proper (stated.facts u.policy) → get_or vs i 0 < variables
-          → Err x ≡ read_answer (stated.facts u.policy) t (get_or vs i 0) → Moved stated.after (reads_variable t (get_or vs i 0)) (read_refused t (get_or vs i 0)) u.policy q (Err x)
+      pub barred_at : {x : PolicyFault} → Proper (stated.facts u.policy) → get_or vs i 0 < variables → {n m : ℕ} → n ≡ t → m ≡ get_or vs i 0
+          → Err x ≡ read_answer (stated.facts u.policy) n m → Moved stated.after (reads_variable n m) (read_refused n m) u.policy q (Err x)
           → RefusedRead stated t vs s.policy q (Refused (Listed i) x)
-      barred_at {x} proper k e m = record {
+      barred_at {x} proper k {n} {m} task_asked variable_asked answered moved = record {
         place = i;
         there = here;
         before = u.policy;
         count = i;
         earlier = earlier.0;
         barred = bar.0;
-        move = subst (λ (y : PolicyFault). Moved stated.after (reads_variable t v) (read_refused t v) u.policy q (Err y)) bar.1 m;
+        move = subst (λ (y : PolicyFault). Moved stated.after (reads_variable t v) (read_refused t v) u.policy q (Err y)) bar.1
+            (subst (λ (z : ℕ × ℕ). Moved stated.after (reads_variable z.0 z.1) (read_refused z.0 z.1) u.policy q (Err x)) asked moved);
         told = ap (λ (y : PolicyFault). Refused (Listed i) y) bar.1;
       }
         where
           v : ℕ
           v = get_or vs i 0
+
+          asked : ◌≡◌ {A = ℕ × ℕ} (n, m) (t, v)
+          asked = λ j. (task_asked j, variable_asked j)
 
           active : (stated.facts u.policy).active t ≡ true
           active = (so_far stated.facts stated.after stated.STRICT keeps t begun (collecting earlier.0)).active
@@ -88,13 +96,14 @@ module _ {P : Type 0} (stated : Ghosts P)
           bar : (may_read (stated.facts u.policy) t v ≡ false) × (x ≡ ReadBarred v)
           bar =
               answer_err (fit_access (stated.facts u.policy) t v) (may_read (stated.facts u.policy) t v) (ReadBarred v)
-              (access_fit (stated.facts u.policy) t v (proper.task t active) k active) e
+              (access_fit (stated.facts u.policy) t v (proper.task t active) k active)
+              (subst (λ (z : ℕ × ℕ). Err x ≡ read_answer (stated.facts u.policy) z.0 z.1) asked answered)
 
     -- all of the list was granted
     pub all_read : (i : ℕ) (q : P) (buffer : List ℤ) → i ≡ length vs → ReadBefore stated t vs s i q buffer
-        → GrantedReads stated t vs s.policy q i × (take (length vs) buffer ≡ map (sight stated.facts s t) vs)
+        → GrantedReads stated t vs s.policy q (length vs) × (take (length vs) buffer ≡ map (sight stated.facts s t) vs)
     all_read i q buffer e u = (
-      subst (λ (ws : List ℕ). GrantedReads stated t ws s.policy q i) whole u.0,
+      subst (λ (z : List ℕ × ℕ). GrantedReads stated t z.0 s.policy q z.1) (λ j. (whole j, e j)) u.0,
       ap (λ (n : ℕ). take n buffer) (sym e) ∙ u.1 ∙ ap (map (sight stated.facts s t)) whole,
     )
       where

@@ -9,13 +9,14 @@ use Rattle.history.specs.Runs.{Sound}
 use Rattle.history.proofs.Soundness.{step_sound}
 use Rattle.history.proofs.Outcomes.{Unasked, wrong_unasked, untimely_unasked}
 use Rattle.table.specs.Faults.{refusal_of, wrong_fault, untimely_fault}
-use Rattle.table.specs.Views.{stage_of, pending_in, state, refusing, Makes, Stepped}
+use Rattle.table.specs.Views.{stage_of, pending_in, state, view, refusing, Makes, Stepped}
 use Rattle.table.specs.Checks.{passed}
 use Rattle.table.specs.declared.fault.TableFault.{TableFault}
 use Rattle.table.specs.declared.stage.Stage.{Stage}
 use Rattle.table.specs.declared.stage.Stage.TheVariants.{Idle}
+use Rattle.table.specs.declared.table.Table.{Table}
 use Rattle.table.proofs.Checking.{passed_err, wrong_refusal, untimely_refusal}
-use Rattle.table.proofs.Stages.{Put, put_same}
+use Rattle.table.proofs.Puts.{Put, put_same}
 use Rattle.policy.specs.declared.Policy.{Ghosts}
 use Rattle.table.proofs.Policies.{Keeping, AlwaysProper}
 
@@ -71,15 +72,15 @@ module _ {P : Type 0} (stated : Ghosts P) where
       (λ v. sym (ap (λ (f : ℕ → ℤ). f v) (u.shared (sees stated.facts c (state p xs ss) p) (λ w. get_or ss w (pos 0)))))
 
   -- a call that the checks turned down; s is the stage that it leaves
-  pub refused_step : (c : Call) (f : TableFault) (p : P) (xs ys : List Stage) (s : Stage) (ss : List ℤ)
-      → Err f ≡ passed (wrong c) (untimely c (stage_of (get_or xs (task c) Idle)))
+  pub refused_step : {A : Type 0} (a : A) (c : Call) (f : TableFault) (p : P) (xs ys : List Stage) (s : Stage) (ss : List ℤ)
+      → Err f ≡ passed a (wrong c) (untimely c (stage_of (get_or xs (task c) Idle)))
       → Put xs (task c) s ys
       → ((x : Wrong) → wrong c ≡ some x → s ≡ get_or xs (task c) Idle)
       → ((x : Untimely) → untimely c (stage_of (get_or xs (task c) Idle)) ≡ some x
       → stage_of s ≡ stage_after c (refused (at_wrong_time x)) (stage_of (get_or xs (task c) Idle)))
       → ((v : ℕ) → pending_in s v ≡ pending_in (get_or xs (task c) Idle) v)
       → Makes stated c (state p xs ss) (refusing (refusal_of f)) (state p ys ss)
-  refused_step c f p xs ys s ss e put kept late pending = go (passed_err (wrong c) (untimely c before) e)
+  refused_step a c f p xs ys s ss e put kept late pending = go (passed_err a (wrong c) (untimely c before) e)
     where
       before : HistoryStage
       before = stage_of (get_or xs (task c) Idle)
@@ -107,14 +108,14 @@ module _ {P : Type 0} (stated : Ghosts P) where
           (late x y) pending)
 
   -- a call that the checks turned down, and that leaves its task as it was
-  pub unmoved_step : (c : Call) (f : TableFault) (p : P) (xs ys : List Stage) (ss : List ℤ)
-      → Err f ≡ passed (wrong c) (untimely c (stage_of (get_or xs (task c) Idle)))
+  unmoved_step : {A : Type 0} (a : A) (c : Call) (f : TableFault) (p : P) (xs ys : List Stage) (ss : List ℤ)
+      → Err f ≡ passed a (wrong c) (untimely c (stage_of (get_or xs (task c) Idle)))
       → ys ≡ xs
       → ((x : Untimely) (s : HistoryStage) → stage_after c (refused (at_wrong_time x)) s ≡ s)
       → Makes stated c (state p xs ss) (refusing (refusal_of f)) (state p ys ss)
-  unmoved_step c f p xs ys ss e same late =
+  unmoved_step a c f p xs ys ss e same late =
       subst (λ (zs : List Stage). Makes stated c (state p xs ss) (refusing (refusal_of f)) (state p zs ss)) (sym same)
-      (refused_step c f p xs xs (get_or xs (task c) Idle) ss e (put_same xs (task c)) (λ x w. refl)
+      (refused_step a c f p xs xs (get_or xs (task c) Idle) ss e (put_same xs (task c)) (λ x w. refl)
       (λ x y. sym (late x (stage_of (get_or xs (task c) Idle)))) (λ v. refl))
 
   module _ (keeps : Keeping stated) (proper : AlwaysProper stated) where
@@ -122,3 +123,13 @@ module _ {P : Type 0} (stated : Ghosts P) where
     pub stepped : (c : Call) (a : State P) (r : Option Answer) (b : State P) → Sound stated.facts a → Makes stated c a r b → Stepped stated c a r b
     stepped c a none b sound m = absurd m
     stepped c a (some r) b sound m = record { makes = m; sound = step_sound stated.facts stated.after stated.STRICT keeps proper m sound }
+
+    -- a call that the checks turned down, and that leaves the table as it was
+    pub turned_down : {A : Type 0} {ys : List Stage} (a : A) (c : Call) (f : TableFault) (s : Table P) → Sound stated.facts (view s)
+        → Err f ≡ passed a (wrong c) (untimely c (stage_of (get_or s.stages.all (task c) Idle)))
+        → ys ≡ s.stages.all
+        → ((x : Untimely) (z : HistoryStage) → stage_after c (refused (at_wrong_time x)) z ≡ z)
+        → Stepped stated c (view s) (refusing (refusal_of f)) (state s.policy ys s.shared)
+    turned_down {A} {ys} a c f s sound e same late =
+        stepped c (view s) (refusing (refusal_of f)) (state s.policy ys s.shared) sound
+        (unmoved_step a c f s.policy s.stages.all ys s.shared e same late)

@@ -36,7 +36,7 @@ state policy stages shared = record {
 }
 
 abbrev pub view : {P : Type 0} → Table P → State P
-view s = state s.policy s.stages s.shared
+view s = state s.policy s.stages.all s.shared
 
 -- what task t sees in variable v of a table
 abbrev pub sight : {P : Type 0} → (P → Facts) → Table P → ℕ → ℕ → ℤ

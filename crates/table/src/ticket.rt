@@ -21,10 +21,8 @@ impl<P: Policy> Table<P> {
         ensures step { Performs P.Policy (begins task) self.old (ticket_or result) self.new }
         ensures ticket { HandsOut task result }
     {
-        match self.begin(task) {
-            Ok(_) => Ok(Ticket { task }),
-            Err(fault) => Err(fault),
-        }
+        let _ = self.begin(task)?;
+        Ok(Ticket { task })
     }
 
     // Reads a variable.
