@@ -19,11 +19,11 @@ use Rattle.table.specs.declared.stage.Call.TheVariants.{Begin}
 use Rattle.table.specs.declared.table.Table.{Table}
 use Rattle.policy.specs.declared.Policy.{Ghosts}
 
--- every value of an array of zeros is 0
-pub zero_at : (n v : ℕ) → get_or (replicate n (pos 0)) v (pos 0) ≡ pos 0
-zero_at zero v = refl
-zero_at (suc n) zero = refl
-zero_at (suc n) (suc v) = zero_at n v
+-- an array of one value has it everywhere
+pub value_at : {X : Type 0} (x : X) (n i : ℕ) → get_or (replicate n x) i x ≡ x
+value_at x zero i = refl
+value_at x (suc n) zero = refl
+value_at x (suc n) (suc i) = value_at x n i
 
 module _ {P : Type 0} (stated : Ghosts P) (keeps : Keeping stated) (proper : AlwaysProper stated) where
   -- x is the task that the checks handed on, for which the policy was asked by the number n
@@ -37,7 +37,7 @@ module _ {P : Type 0} (stated : Ghosts P) (keeps : Keeping stated) (proper : Alw
       (subst (λ (zs : List Stage). Makes stated (begin t) (view s) (some done) (state q zs s.shared)) (sym (put ∙ there))
       (plain_step stated (begin t) done s.policy q s.stages.all (set s.stages.all t (Open zeros)) (Open zeros) s.shared s.shared refl refl (rw (ok.0, ok.1))
       (q, subst (λ (k : ℕ). stated.after s.policy (begins k) q) (asked ∙ ok.2) move, refl)
-      (put_set s.stages.all t (Open zeros) below) refl (zero_at variables) (λ v. refl)))
+      (put_set s.stages.all t (Open zeros) below) refl (value_at (pos 0) variables) (λ v. refl)))
     where
       zeros : List ℤ
       zeros = replicate variables (pos 0)

@@ -30,6 +30,10 @@ use Rattle.table.proofs.Policies.{Keeping, AlwaysProper}
 pub cut_at : (vs : List ℕ) (i : ℕ) → i < length vs → take i vs ++ (get_or vs i 0 ∷ drop (i + 1) vs) ≡ vs
 cut_at vs i h = ap (λ (ws : List ℕ). take i vs ++ ws) (sym (drop_more vs i 0 h)) ∙ take-append-drop i vs
 
+-- what holds of a list so cut, and of the length of its front, holds of the list and the place
+pub at_refusal : (F : List ℕ → ℕ → Type 0) (vs : List ℕ) (i : ℕ) → i < length vs → F (take i vs ++ (get_or vs i 0 ∷ drop (i + 1) vs)) (length (take i vs)) → F vs i
+at_refusal F vs i h = subst (λ (z : List ℕ × ℕ). F z.0 z.1) (λ j. (cut_at vs i h j, length-take-le i vs (omega arith) j))
+
 -- zeros alone after a refusal
 pub replied_refusing : (o : Option Refusal) (room : ℕ) → replied (refusing o) room ≡ replicate room (pos 0)
 replied_refusing none room = refl
@@ -81,11 +85,8 @@ module _ {P : Type 0} (stated : Ghosts P) (keeps : Keeping stated) (proper : Alw
       subst (λ (b : State P). Makes stated (collect t vs room) (view s) (refusing (refusal_of f)) b) (sym left)
       (subst (λ (y : TableFault). Makes stated (collect t vs room) (view s) (refusing (refusal_of y)) (state u.policy (set s.stages.all t Broken) s.shared)) (sym r.told) step)
     where
-      i : ℕ
-      i = r.place
-
       v : ℕ
-      v = get_or vs i 0
+      v = get_or vs r.place 0
 
       left : state u.policy bs u.shared ≡ state u.policy (set s.stages.all t Broken) s.shared
       left = λ j. state u.policy ((broken ∙ (λ i. set (same_stages i) (a.here i) Broken)) j) (values-kept j)
@@ -93,26 +94,14 @@ module _ {P : Type 0} (stated : Ghosts P) (keeps : Keeping stated) (proper : Alw
       put : Put s.stages.all t Broken (set s.stages.all t Broken)
       put = put_set s.stages.all t Broken (let k = s.stages.complete in let h = (list_right t vs room a.fine).0 in omega arith)
 
-      bar : ℕ → Answer
-      bar n = refused (by_policy (read_barred (listed n) v))
-
-      cut : List ℕ
-      cut = take i vs ++ (v ∷ drop (i + 1) vs)
-
-      whole : cut ≡ vs
-      whole = cut_at vs i r.there
-
-      at_place : length (take i vs) ≡ i
-      at_place = let k = r.there in length-take-le i vs (omega arith)
-
-      step : Makes stated (collect t vs room) (view s) (some (bar i)) (state u.policy (set s.stages.all t Broken) s.shared)
+      step : Makes stated (collect t vs room) (view s) (some (refused (by_policy (read_barred (listed r.place) v)))) (state u.policy (set s.stages.all t Broken) s.shared)
       step =
-          subst (λ (l : List ℕ). Makes stated (collect t l room) (view s) (some (bar i)) (state u.policy (set s.stages.all t Broken) s.shared)) whole
-          (subst (λ (n : ℕ). Makes stated (collect t cut room) (view s) (some (bar n)) (state u.policy (set s.stages.all t Broken) s.shared)) at_place
+          at_refusal
+          (λ l k. Makes stated (collect t l room) (view s) (some (refused (by_policy (read_barred (listed k) v)))) (state u.policy (set s.stages.all t Broken) s.shared)) vs r.place r.there
           (collect_barred stated.facts stated.after stated.STRICT keeps t room (view s) (state u.policy (set s.stages.all t Broken) s.shared) (λ w. refl) (λ u ne. ap stage_of (put.others u ne))
-          (λ u ne w. ap (λ (s : Stage). pending_in s w) (put.others u ne)) (take i vs) v (drop (i + 1) vs) r.before r.count
-          (subst (λ (l : List ℕ). wrong_list t l room ≡ none) (sym whole) a.fine) a.timely in_one (collecting stated keeps t r.earlier) r.barred r.move
-          (ap stage_of put.own) (λ w. ap (λ (s : Stage). pending_in s w) put.own)))
+          (λ u ne w. ap (λ (s : Stage). pending_in s w) (put.others u ne)) (take r.place vs) v (drop (r.place + 1) vs) r.before r.count
+          (subst (λ (l : List ℕ). wrong_list t l room ≡ none) (sym (cut_at vs r.place r.there)) a.fine) a.timely in_one (collecting stated keeps t r.earlier) r.barred r.move
+          (ap stage_of put.own) (λ w. ap (λ (s : Stage). pending_in s w) put.own))
 
   -- what the reads of the list answered is what the collect answers
   pub collect_answered : (r : Result Collected TableFault) (buffer : List ℤ) (bs : List Stage) → bs ≡ once_answered r x u.stages.all

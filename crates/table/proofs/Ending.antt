@@ -1,7 +1,7 @@
 -- Commits and aborts that the policy was asked for.
 use Rattle.std.proofs.Common.{◌≡◌, ℕ, ◌<◌, true, false, ltb, List, length, get_or, set, ℤ, pos, Ok, Err, Result, sym, refl, ap, ◌∙◌, subst, arith}
 use mathlib.Core.Option.{none, some}
-use Rattle.std.proofs.lemmas.List.{set-get_or}
+use Rattle.std.proofs.lemmas.List.{set-get_or, get_or_past}
 use Rattle.policy.specs.Limits.{tasks}
 use Rattle.policy.specs.Facts.{may_commit}
 use Rattle.policy.specs.Moves.{commit_refused}
@@ -26,7 +26,7 @@ use Rattle.table.specs.declared.table.Table.{Table}
 use Rattle.table.proofs.Policies.{Keeping, AlwaysProper}
 use Rattle.table.proofs.Checking.{passed_ok, task_right, task_beyond}
 use Rattle.table.proofs.Granting.{answer_ok, answer_err, fit_at}
-use Rattle.table.proofs.Puts.{put_set, put_called, idle_beyond}
+use Rattle.table.proofs.Puts.{put_set, put_called}
 use Rattle.table.proofs.StepMaking.{plain_step, refused_step, stepped}
 use Rattle.policy.specs.declared.Policy.{Ghosts}
 
@@ -57,7 +57,7 @@ module _ {P : Type 0} (stated : Ghosts P) (keeps : Keeping stated) (proper : Alw
       (subst (λ (zs : List Stage). Makes stated (commit t) (view s) (refusing (refusal_of f)) (state s.policy zs s.shared)) (sym moved)
       (refused_step stated t (commit t) f s.policy s.stages.all (all_once_called Commit t s.stages.all) (once_called Commit (get_or s.stages.all t Idle)) s.shared e
       (put_called Commit s.stages.all t)
-      (λ x w. rw (idle_beyond s.stages.all t (let h = task_beyond t w in let k = s.stages.complete in omega arith)))
+      (λ x w. rw (get_or_past s.stages.all t Idle (let h = task_beyond t w in let k = s.stages.complete in omega arith)))
       (λ x y. late_commit (get_or s.stages.all t Idle) x y) (λ v. called_pending (get_or s.stages.all t Idle) v)))
 
   -- x is the task that the checks handed on, for which the policy was asked by the number n and left at q

@@ -11,15 +11,9 @@ use Rattle.table.specs.Views.{stage_of, pending_in, state}
 use Rattle.table.specs.Making.{LawFrom}
 use Rattle.table.specs.declared.stage.Stage.{Stage}
 use Rattle.table.specs.declared.stage.Stage.TheVariants.{Idle}
-use Rattle.table.proofs.Beginning.{zero_at}
+use Rattle.table.proofs.Beginning.{value_at}
 use Rattle.policy.specs.declared.Policy.{Ghosts}
 use Rattle.table.proofs.Policies.{Keeping, AlwaysProper}
-
--- every task is idle
-idle_at : (n t : ℕ) → get_or (replicate n Idle) t Idle ≡ Idle
-idle_at zero t = refl
-idle_at (suc n) zero = refl
-idle_at (suc n) (suc t) = idle_at n t
 
 module _ {P : Type 0} (stated : Ghosts P) where
   pub new_table : (p : P) (xs : List Stage) (ss : List ℤ) → Fresh (stated.facts p) → xs ≡ replicate tasks Idle → ss ≡ replicate variables (pos 0) → New stated.facts (state p xs ss)
@@ -27,11 +21,11 @@ module _ {P : Type 0} (stated : Ghosts P) where
     fresh = fresh;
     stage = λ t. ap stage_of (at t);
     pending = λ t v. ap (λ (s : Stage). pending_in s v) (at t);
-    shared = λ v. ap (λ (l : List ℤ). get_or l v (pos 0)) i ∙ zero_at variables v;
+    shared = λ v. ap (λ (l : List ℤ). get_or l v (pos 0)) i ∙ value_at (pos 0) variables v;
   }
     where
       at : (t : ℕ) → get_or xs t Idle ≡ Idle
-      at t = ap (λ (l : List Stage). get_or l t Idle) e ∙ idle_at tasks t
+      at t = ap (λ (l : List Stage). get_or l t Idle) e ∙ value_at Idle tasks t
 
   -- every run of a new table leaves it sound
   leads_sound : (keeps : Keeping stated) (proper : AlwaysProper stated)

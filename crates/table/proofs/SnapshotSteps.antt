@@ -28,7 +28,7 @@ use Rattle.table.specs.declared.fault.TableFault.{TableFault}
 use Rattle.table.proofs.Granting.{answer_err}
 use Rattle.table.proofs.StepMaking.{stepped}
 use Rattle.table.proofs.ListReads.{collecting}
-use Rattle.table.proofs.CollectSteps.{cut_at}
+use Rattle.table.proofs.CollectSteps.{cut_at, at_refusal}
 use Rattle.policy.specs.declared.Policy.{Ghosts}
 use Rattle.table.proofs.Policies.{Keeping, AlwaysProper}
 
@@ -81,31 +81,16 @@ module _ {P : Type 0} (stated : Ghosts P) (keeps : Keeping stated) (proper : Alw
       r : RefusedRead stated t vs begun u.policy f
       r = gathered (Err f) buffer made
 
-      i : ℕ
-      i = r.place
-
       v : ℕ
-      v = get_or vs i 0
+      v = get_or vs r.place 0
 
-      bar : ℕ → Answer
-      bar k = refused (by_policy (read_barred (listed k) v))
-
-      cut : List ℕ
-      cut = take i vs ++ (v ∷ drop (i + 1) vs)
-
-      whole : cut ≡ vs
-      whole = cut_at vs i r.there
-
-      at_place : length (take i vs) ≡ i
-      at_place = let k = r.there in length-take-le i vs (omega arith)
-
-      step : Makes stated (snapshot t vs room) (view s) (some (bar i)) (state u.policy s.stages.all s.shared)
+      step : Makes stated (snapshot t vs room) (view s) (some (refused (by_policy (read_barred (listed r.place) v)))) (state u.policy s.stages.all s.shared)
       step =
-          subst (λ (l : List ℕ). Makes stated (snapshot t l room) (view s) (some (bar i)) (state u.policy s.stages.all s.shared)) whole
-          (subst (λ (k : ℕ). Makes stated (snapshot t cut room) (view s) (some (bar k)) (state u.policy s.stages.all s.shared)) at_place
+          at_refusal
+          (λ l k. Makes stated (snapshot t l room) (view s) (some (refused (by_policy (read_barred (listed k) v)))) (state u.policy s.stages.all s.shared)) vs r.place r.there
           (snapshot_barred stated.facts stated.after stated.STRICT keeps t room (view s) (state u.policy s.stages.all s.shared) (λ w. refl) (λ u ne. refl) (λ u ne w. refl)
-          (take i vs) v (drop (i + 1) vs) begun r.before r.count (subst (λ (l : List ℕ). wrong_list t l room ≡ none) (sym whole) a.fine) a.timely move
-          (collecting stated keeps t r.earlier) r.barred r.move refl (λ w. refl)))
+          (take r.place vs) v (drop (r.place + 1) vs) begun r.before r.count (subst (λ (l : List ℕ). wrong_list t l room ≡ none) (sym (cut_at vs r.place r.there)) a.fine) a.timely move
+          (collecting stated keeps t r.earlier) r.barred r.move refl (λ w. refl))
 
   -- the policy never refuses a snapshot's commit
   pub commit_never_refused : {m : ℕ} {f : PolicyFault} (c : Collected) (buffer : List ℤ) → ReadsList stated x vs here u.policy buffer (Ok c)

@@ -11,6 +11,7 @@ use crate::table::Table;
 use policy::{Granted, Policy};
 
 // Stands for the number of the task that began. It can neither be copied nor let go.
+// The calls by ticket stand beside those by number: some read the ticket and some spend it, which one generic call couldn't say.
 pub struct Ticket {
     task: u8,
 }

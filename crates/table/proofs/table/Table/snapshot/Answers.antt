@@ -85,8 +85,8 @@ returns-in-Err g c =
     let s = c.args.self.now in
     let room = length c.args.reply.now in
     let len : length c.clear.new.reply ≡ room = omega arith in
-    let a = admitted Begin t vs room (λ z. refl) (rw len at c.in_ok-task.ensures) c.in_ok-admit.ensures.answer c.admit.ensures.moved in
     let all : length c.read_list.new.reply ≡ room = omega arith in
+    let a = admitted Begin t vs room (λ z. refl) (rw len at c.in_ok-task.ensures) c.in_ok-admit.ensures.answer c.admit.ensures.moved in
     record {
       step = λ sound. absurd (commit_never_refused g.P.Policy g.met.P.Policy.keeps g.met.P.Policy.proper t vs room s c.read_list.new.self c.admit.new.self
           c.begin.new.self a c.read_list.ensures.stages c.read_list.ensures.shared sound c.from.ensures.0 c.in_ok-begin.ensures.moved
