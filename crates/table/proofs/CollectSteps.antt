@@ -2,7 +2,7 @@
 use Rattle.std.proofs.Common.{◌≡◌, ℕ, ◌+◌, ◌-◌, ◌<◌, ◌≤◌, true, List, ◌∷◌, ◌++◌, map, length, get_or, take, drop, set, replicate, ℤ, pos, Ok, Err, Result, sym, refl, ap, ◌∙◌, subst, arith}
 use mathlib.Core.Option.{Option, none, some}
 use Rattle.std.proofs.lemmas.List.{take-append-drop, drop_more, length-take-le, drop-replicate, length-replicate}
-use Rattle.history.specs.Calls.{collect, listed, Refusal, Answer, values, refused, read_barred, by_policy}
+use Rattle.history.specs.Calls.{collect, listed, Refusal, values, refused, read_barred, by_policy}
 use Rattle.history.specs.Answers.{look, wrong_list}
 use Rattle.history.specs.Steps.{State, sees}
 use Rattle.history.specs.Runs.{Sound, in_transaction}

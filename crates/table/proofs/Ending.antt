@@ -33,7 +33,7 @@ use Rattle.policy.specs.declared.Policy.{Ghosts}
 -- a commit at the wrong time leaves its task idle
 late_commit : (s : Stage) (x : Untimely) → must_be_active (stage_of s) ≡ some x → stage_of (once_called Commit s) ≡ idle
 late_commit Idle x e = refl
-late_commit (Open pending) x e = let z : ◌≡◌ {A = ℕ} 0 1 = cc in absurd (omega arith)
+late_commit (Open pending) x e = absurd (cc)
 late_commit Broken x e = refl
 
 called_pending : (s : Stage) (v : ℕ) → pending_in (once_called Commit s) v ≡ pending_in s v
@@ -44,7 +44,7 @@ called_pending Broken v = refl
 timely_commit : (s : Stage) → must_be_active (stage_of s) ≡ none → once_called Commit s ≡ s
 timely_commit Idle e = refl
 timely_commit (Open pending) e = refl
-timely_commit Broken e = let z : ◌≡◌ {A = ℕ} 0 1 = cc in absurd (omega arith)
+timely_commit Broken e = absurd (cc)
 
 module _ {P : Type 0} (stated : Ghosts P) (keeps : Keeping stated) (proper : AlwaysProper stated) where
   -- a commit that the checks turned down: a broken task is idle after it
@@ -126,7 +126,7 @@ module _ {P : Type 0} (stated : Ghosts P) (keeps : Keeping stated) (proper : Alw
     -- an abort ends what the policy still has
     aborted : (z : HistoryStage) (r : Result Granted PolicyFault) → ltb t tasks ≡ true → (stated.facts s.policy).active t ≡ in_transaction z → must_not_be_idle z ≡ none
         → r ≡ abort_answer (stated.facts s.policy) t → Moved stated.after (aborts t) (aborts t) s.policy q r → Chain stated.after (abort_moves t z) s.policy q
-    aborted idle r b a i e m = let z : ◌≡◌ {A = ℕ} 0 1 = cc in absurd (omega arith)
+    aborted idle r b a i e m = absurd (cc)
     aborted active r b a i e m =
         let k : abort_answer (stated.facts s.policy) t ≡ Ok granted = rw (b, a) in
         (q, subst (Moved stated.after (aborts t) (aborts t) s.policy q) (e ∙ k) m, refl)

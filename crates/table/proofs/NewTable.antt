@@ -1,5 +1,5 @@
 -- A new table, and the law of all that can follow.
-use Rattle.std.proofs.Common.{◌≡◌, ℕ, zero, suc, List, get_or, replicate, ℤ, pos, refl, ap, ◌∙◌}
+use Rattle.std.proofs.Common.{◌≡◌, ℕ, List, get_or, replicate, ℤ, pos, ap, ◌∙◌}
 use Rattle.policy.specs.Limits.{tasks, variables}
 use Rattle.policy.specs.Facts.{Fresh}
 use Rattle.history.specs.Steps.{State}

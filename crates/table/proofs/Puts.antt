@@ -1,5 +1,5 @@
 -- The stages of all tasks with one of them changed.
-use Rattle.std.proofs.Common.{◌≡◌, ℕ, zero, suc, ◌<◌, ◌≤◌, ◌≢◌, List, [], ◌∷◌, length, get_or, set, ℤ, pos, sym, refl, ap, ◌∙◌, arith}
+use Rattle.std.proofs.Common.{◌≡◌, ℕ, ◌<◌, ◌≤◌, ◌≢◌, List, length, get_or, set, ℤ, pos, sym, refl, ap, ◌∙◌, arith}
 use native.Mathlib.Decide.{dec_lt}
 use Rattle.std.proofs.lemmas.List.{get_or-set_same, get_or-set_other, get_or_past, set_past}
 use Rattle.policy.specs.Limits.{variables}
@@ -37,9 +37,9 @@ values_set xs v y h w = at_elim (λ (z : ℤ). get_or (set xs v y) w (pos 0) ≡
 -- it changes that variable alone
 pub pending_set : (s : Stage) (v : ℕ) (y : ℤ) → v < variables → Whole s → stage_of s ≡ active
     → (w : ℕ) → pending_in (with_pending s v y) w ≡ at (pending_in s) v y w
-pending_set Idle v y h whole e w = let z : ◌≡◌ {A = ℕ} 0 1 = cc in absurd (omega arith)
+pending_set Idle v y h whole e w = absurd (cc)
 pending_set (Open pending) v y h whole e w = values_set pending v y (omega arith) w
-pending_set Broken v y h whole e w = let z : ◌≡◌ {A = ℕ} 0 1 = cc in absurd (omega arith)
+pending_set Broken v y h whole e w = absurd (cc)
 
 called_idle : (call : Call) → once_called call Idle ≡ Idle
 called_idle Begin = refl

@@ -1,13 +1,12 @@
 -- A snapshot as a step of the histories' runs.
-use Rattle.std.proofs.Common.{◌≡◌, ℕ, ◌+◌, true, List, ◌∷◌, ◌++◌, map, length, get_or, take, drop, ℤ, Ok, Err, Result, sym, refl, ◌∙◌, subst, arith}
+use Rattle.std.proofs.Common.{◌≡◌, ℕ, ◌+◌, true, List, map, length, get_or, take, drop, ℤ, Ok, Err, Result, sym, refl, ◌∙◌, subst}
 use mathlib.Core.Option.{none, some}
-use Rattle.std.proofs.lemmas.List.{length-take-le}
 use Rattle.policy.specs.Facts.{may_commit}
 use Rattle.policy.specs.Moves.{begin as begins, commit as commits}
 use Rattle.policy.specs.Answers.{fit_task, commit_answer}
 use Rattle.policy.specs.declared.PolicyFault.{PolicyFault}
 use Rattle.policy.specs.declared.PolicyFault.TheVariants.{CommitRefused}
-use Rattle.history.specs.Calls.{snapshot, listed, Answer, values, refused, read_barred, by_policy}
+use Rattle.history.specs.Calls.{snapshot, listed, values, refused, read_barred, by_policy}
 use Rattle.history.specs.Answers.{look, wrong_list}
 use Rattle.history.specs.Steps.{State, sees}
 use Rattle.history.specs.Runs.{Sound}
