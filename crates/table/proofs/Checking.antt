@@ -9,18 +9,18 @@ use Rattle.table.specs.Faults.{refusal_of, wrong_fault, untimely_fault}
 use Rattle.table.specs.Checks.{passed, task_wrong}
 use Rattle.table.specs.declared.fault.TableFault.{TableFault}
 
--- both checks were passed
-pub passed_ok : {x : Unit {0}} (w : Option Wrong) (y : Option Untimely) → Ok x ≡ passed w y → (w ≡ none) × (y ≡ none)
-passed_ok (some why) y e = let z : ◌≡◌ {A = ℕ} 0 1 = cc in absurd (omega arith)
-passed_ok none (some why) e = let z : ◌≡◌ {A = ℕ} 0 1 = cc in absurd (omega arith)
-passed_ok none none e = (refl, refl)
+-- both checks were passed, and what passed them is handed on
+pub passed_ok : {A : Type 0} {x a : A} (w : Option Wrong) (y : Option Untimely) → Ok x ≡ passed a w y → (w ≡ none) × (y ≡ none) × (x ≡ a)
+passed_ok (some why) y e = absurd (cc)
+passed_ok none (some why) e = absurd (cc)
+passed_ok none none e = (refl, refl, cc)
 
 -- one of them failed, and the fault tells why
-pub passed_err : {f : TableFault} (w : Option Wrong) (y : Option Untimely) → Err f ≡ passed w y
+pub passed_err : {A : Type 0} {f : TableFault} (a : A) (w : Option Wrong) (y : Option Untimely) → Err f ≡ passed a w y
     → ((x : Wrong) × (w ≡ some x) × (f ≡ wrong_fault x)) ⊎ ((x : Untimely) × (w ≡ none) × (y ≡ some x) × (f ≡ untimely_fault x))
-passed_err (some x) y e = inl (x, refl, cc)
-passed_err none (some x) e = inr (x, refl, refl, cc)
-passed_err none none e = let z : ◌≡◌ {A = ℕ} 0 1 = cc in absurd (omega arith)
+passed_err a (some x) y e = inl (x, refl, cc)
+passed_err a none (some x) e = inr (x, refl, refl, cc)
+passed_err a none none e = absurd (cc)
 
 pub wrong_refusal : (x : Wrong) → refusal_of (wrong_fault x) ≡ some (sent_wrongly x)
 wrong_refusal no_task = refl
@@ -36,31 +36,24 @@ untimely_refusal is_broken = refl
 
 pub unless_none : (b : Bool) (why : Wrong) → unless b why ≡ none → b ≡ true
 unless_none true why e = refl
-unless_none false why e = let z : ◌≡◌ {A = ℕ} 0 1 = cc in absurd (omega arith)
+unless_none false why e = absurd (cc)
 
 -- there is such a task
 pub task_right : (t : ℕ) → task_wrong t ≡ none → t < tasks
 task_right t e = let b : ltb t tasks ≡ true = unless_none (ltb t tasks) no_task e in grind arith
 
 -- a call that was sent wrongly is turned down whatever its time
-pub passed_anyway : {f : TableFault} (w : Option Wrong) (y : Option Untimely) → Err f ≡ passed w none → Err f ≡ passed w y
-passed_anyway (some x) y e = e
-passed_anyway none y e = let z : ◌≡◌ {A = ℕ} 0 1 = cc in absurd (omega arith)
+pub passed_anyway : {A : Type 0} {f : TableFault} (a : A) (w : Option Wrong) (y : Option Untimely) → Err f ≡ passed a w none → Err f ≡ passed a w y
+passed_anyway a (some x) y e = e
+passed_anyway a none y e = absurd (cc)
 
 -- there is no such task
 pub task_beyond : {x : Wrong} (t : ℕ) → task_wrong t ≡ some x → tasks ≤ t
 task_beyond t e = go (cases_Bool (ltb t tasks))
   where
     go : (ltb t tasks ≡ true) ⊎ (ltb t tasks ≡ false) → tasks ≤ t
-    go (inl b) = let k : none ≡ some _ = rw b at e in let z : ◌≡◌ {A = ℕ} 0 1 = cc in absurd (omega arith)
+    go (inl b) = let k : none ≡ some _ = rw b at e in absurd (cc)
     go (inr b) = grind arith
-
-pub no_such_task : {f : TableFault} (t : ℕ) → Err f ≡ passed (task_wrong t) none → tasks ≤ t
-no_such_task {f} t e = go (passed_err (task_wrong t) none e)
-  where
-    go : ((x : Wrong) × (task_wrong t ≡ some x) × (f ≡ wrong_fault x)) ⊎ ((x : Untimely) × (task_wrong t ≡ none) × (none ≡ some x) × (f ≡ untimely_fault x)) → tasks ≤ t
-    go (inl w) = task_beyond t w.1
-    go (inr w) = let i = w.2 in let z : ◌≡◌ {A = ℕ} 0 1 = cc in absurd (omega arith)
 
 -- there are such a task and such a variable
 pub access_right : (t v : ℕ) → wrong (read t v) ≡ none → (t < tasks) × (v < variables)
@@ -71,4 +64,4 @@ access_right t v e = go (cases_Bool (ltb t tasks))
         let k : unless (ltb v variables) (no_variable single) ≡ none = rw b at e in
         let d : ltb v variables ≡ true = unless_none (ltb v variables) (no_variable single) k in
         (grind arith, grind arith)
-    go (inr b) = let k : some no_task ≡ none = rw b at e in let z : ◌≡◌ {A = ℕ} 0 1 = cc in absurd (omega arith)
+    go (inr b) = let k : some no_task ≡ none = rw b at e in absurd (cc)

@@ -13,15 +13,15 @@ use Rattle.history.proofs.Outcomes.{is_active}
 -- granted: the facts allow it
 pub answer_ok : {x : Granted} (fit may : Bool) (why : PolicyFault) → Ok x ≡ answer fit may why → may ≡ true
 answer_ok true true why e = refl
-answer_ok true false why e = let z : ◌≡◌ {A = ℕ} 0 1 = cc in absurd (omega arith)
+answer_ok true false why e = absurd (cc)
 answer_ok false true why e = refl
-answer_ok false false why e = let z : ◌≡◌ {A = ℕ} 0 1 = cc in absurd (omega arith)
+answer_ok false false why e = absurd (cc)
 
 -- refused, though the call was fit: the facts forbid it, and the fault says why
 pub answer_err : {f : PolicyFault} (fit may : Bool) (why : PolicyFault) → fit ≡ true → Err f ≡ answer fit may why → (may ≡ false) × (f ≡ why)
-answer_err true true why fits e = let z : ◌≡◌ {A = ℕ} 0 1 = cc in absurd (omega arith)
+answer_err true true why fits e = absurd (cc)
 answer_err true false why fits e = (refl, cc)
-answer_err false may why fits e = let z : ◌≡◌ {A = ℕ} 0 1 = cc in absurd (omega arith)
+answer_err false may why fits e = absurd (cc)
 
 -- a task in a transaction may ask the policy
 pub fit_at : (f : Facts) (t : ℕ) (s : Stage) → t < tasks → f.active t ≡ in_transaction s → must_be_active s ≡ none → fit_task f t ≡ true

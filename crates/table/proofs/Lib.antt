@@ -1,5 +1,6 @@
+pub mod Policies
 pub mod Checking
-pub mod Stages
+pub mod Puts
 pub mod StepMaking
 pub mod Beginning
 pub mod Clearing

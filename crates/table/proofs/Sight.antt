@@ -1,16 +1,12 @@
 -- All that a task sees, variable by variable.
-use Rattle.std.proofs.Common.{◌≡◌, ℕ, zero, suc, ◌<◌, ◌≤◌, true, false, ◌⊎◌, List, [], ◌∷◌, length, get_or, ℤ, pos, sym, refl, ◌∙◌, inl, inr, arith}
+use Rattle.std.proofs.Common.{◌≡◌, ℕ, ◌<◌, ◌≤◌, true, false, ◌⊎◌, List, length, get_or, ℤ, pos, sym, ◌∙◌, inl, inr, arith}
 use native.Mathlib.Decide.{dec_lt}
 use Rattle.std.proofs.lemmas.Bool.{cases_Bool}
+use Rattle.std.proofs.lemmas.List.{get_or_past}
 use Rattle.policy.specs.Limits.{variables}
 use Rattle.policy.specs.Facts.{Facts, Proper}
 use Rattle.table.specs.Views.{sight}
 use Rattle.table.specs.declared.table.Table.{Table}
-
-get_or_beyond : (l : List ℤ) (i : ℕ) → length l ≤ i → get_or l i (pos 0) ≡ pos 0
-get_or_beyond [] i h = refl
-get_or_beyond (x ∷ xs) zero h = absurd (omega arith)
-get_or_beyond (x ∷ xs) (suc i) h = get_or_beyond xs i (omega arith)
 
 module _ {P : Type 0} (facts : P → Facts) (s : Table P) (proper : Proper (facts s.policy)) (t : ℕ) where
   -- beyond the variables there is nothing to see
@@ -19,7 +15,7 @@ module _ {P : Type 0} (facts : P → Facts) (s : Table P) (proper : Proper (fact
     where
       go : ((facts s.policy).writes t v ≡ true) ⊎ ((facts s.policy).writes t v ≡ false) → sight facts s t v ≡ pos 0
       go (inl e) = let k = proper.written_below t v e in absurd (omega arith)
-      go (inr e) = rw e (get_or_beyond s.shared v (omega arith))
+      go (inr e) = rw e (get_or_past s.shared v (pos 0) (omega arith))
 
   pub seen_all : (xs : List ℤ) → length s.shared ≡ variables → length xs ≡ variables
       → ((v : ℕ) → v < variables → get_or xs v (pos 0) ≡ sight facts s t v) → (v : ℕ) → get_or xs v (pos 0) ≡ sight facts s t v
@@ -27,4 +23,4 @@ module _ {P : Type 0} (facts : P → Facts) (s : Table P) (proper : Proper (fact
     where
       go : Dec (v < variables) → get_or xs v (pos 0) ≡ sight facts s t v
       go (yes h) = below v h
-      go (no h) = let k : variables ≤ v = omega arith in get_or_beyond xs v (omega arith) ∙ sym (beyond v shared k)
+      go (no h) = let k : variables ≤ v = omega arith in get_or_past xs v (pos 0) (omega arith) ∙ sym (beyond v shared k)

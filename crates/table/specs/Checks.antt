@@ -12,11 +12,11 @@ use Rattle.table.specs.declared.stage.Stage.TheVariants.{Idle, Open, Broken}
 use Rattle.table.specs.declared.stage.Call.{Call}
 use Rattle.table.specs.declared.stage.Call.TheVariants.{Begin, Access, Commit, Abort}
 
--- the result of the checks: how the call was sent first, then its time
-abbrev pub passed : Option Wrong → Option Untimely → Result Unit TableFault
-passed (some why) late = Err (wrong_fault why)
-passed none (some why) = Err (untimely_fault why)
-passed none none = Ok tt
+-- the result of the checks: how the call was sent first, then its time; x is what passed them
+abbrev pub passed : {A : Type 0} → A → Option Wrong → Option Untimely → Result A TableFault
+passed x (some why) late = Err (wrong_fault why)
+passed x none (some why) = Err (untimely_fault why)
+passed x none none = Ok x
 
 -- there is such a task
 abbrev pub task_wrong : ℕ → Option Wrong
@@ -41,6 +41,11 @@ once_called Abort s = s
 -- the stages once the call of task t has come
 abbrev pub all_once_called : Call → ℕ → List Stage → List Stage
 all_once_called call t stages = slice_set stages t (once_called call (slice_index_or stages t Idle))
+
+-- the stages once an access of task t was answered: a refusal breaks the task
+abbrev pub once_answered : {A F : Type 0} → Result A F → ℕ → List Stage → List Stage
+once_answered (Ok x) t stages = stages
+once_answered (Err f) t stages = slice_set stages t Broken
 
 -- the stage with one pending value changed, if the task is in a transaction
 abbrev pub with_pending : Stage → ℕ → ℤ → Stage

@@ -9,11 +9,7 @@ impl<P: Policy> Table<P> {
     pub fn into_policy(self) -> P
         ensures { result ≡ self.policy }
     {
-        let Table {
-            policy,
-            stages: _,
-            shared: _,
-        } = self;
+        let Table { policy, .. } = self;
         policy
     }
 }

@@ -5,10 +5,9 @@ ghost use Rattle.table.specs.Collect.{values_or, replied};
 ghost use Rattle.table.specs.Views.{Performs};
 
 use crate::answer::Collected;
-use crate::checks::admit;
 use crate::fault::TableFault;
 use crate::list::{check_list, clear};
-use crate::stage::{Call, break_task};
+use crate::stage::Call;
 use crate::table::Table;
 use policy::Policy;
 
@@ -21,18 +20,13 @@ impl<P: Policy> Table<P> {
         list: &[u8],
         reply: &mut [i32],
     ) -> Result<Collected, TableFault>
-        ensures step { Performs P.Policy.facts P.Policy.after P.Policy.STRICT (collects task list.now (length reply.old)) self.old (values_or list.now reply.new result) self.new }
+        ensures step { Performs P.Policy (collects task list.now (length reply.old)) self.old (values_or list.now reply.new result) self.new }
         ensures buffer { reply.new ≡ replied (values_or list.now reply.new result) (length reply.old) }
     {
         clear(reply);
-        check_list(task, list, reply.len())?;
-        admit(&mut self.stages, task, Call::Access)?;
-        match self.read_list(task, list, reply) {
-            Ok(collected) => Ok(collected),
-            Err(fault) => {
-                break_task(&mut self.stages, task);
-                Err(fault)
-            }
-        }
+        let task = check_list(task, list, reply.len())?;
+        self.stages.admit(task, Call::Access)?;
+        let answer = self.read_list(task, list, reply);
+        self.stages.break_if_refused(task, answer)
     }
 }

@@ -6,6 +6,7 @@ use policy::PolicyFault;
 use refusal::Refusal;
 
 // Where a variable stands in a call: by itself, or at a place of its list, counted from 0.
+// No Option<u8>: a variable by itself is a case of its own, and no place that is missing.
 #[derive(Clone, Copy, Debug, PartialEq, Eq)]
 pub enum Place {
     Single,

@@ -3,15 +3,16 @@
 
 pub mod answer;
 pub mod apart;
-mod asking;
 pub mod calls;
 pub mod checks;
 pub mod collect;
 pub mod fault;
 pub mod list;
 pub mod making;
+mod number;
 pub mod seeing;
 pub mod snapshot;
 pub mod stage;
+mod stages;
 pub mod table;
 pub mod ticket;

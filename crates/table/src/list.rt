@@ -1,7 +1,6 @@
 // Lists of variables: their checks, their reads, and the reply buffer that takes the values.
-ghost use Rattle.std.specs.Prelude.{◌≡◌, ◌<◌, ◌≤◌, length, replicate, pos};
+ghost use Rattle.std.specs.Prelude.{◌≡◌, ◌≤◌, length, replicate, pos};
 ghost use Rattle.std.proofs.Math.Option.{none as nothing};
-ghost use Rattle.policy.specs.Limits.{tasks};
 ghost use Rattle.history.specs.Answers.{first_wrong, wrong_list, longest_list};
 ghost use Rattle.table.specs.Checks.{passed};
 ghost use Rattle.table.specs.Collect.{Leaves, ReadsList};
@@ -9,6 +8,7 @@ ghost use Rattle.table.specs.Collect.{Leaves, ReadsList};
 use crate::answer::Collected;
 use crate::checks::check_task;
 use crate::fault::{Place, TableFault};
+use crate::number::{Task, Variable};
 use crate::table::Table;
 use policy::{Policy, VARIABLES};
 
@@ -22,64 +22,62 @@ pub(crate) fn clear(reply: &mut [i32])
     reply.fill(0);
 }
 
-// Whether a list names variables only.
+// Whether a list names variables only. `as` and no try_from: a place is below 16, and the fault could come in no call.
 fn check_variables(list: &[u8]) -> Result<(), TableFault>
     requires { length list.now ≤ longest_list }
-    ensures { result ≡ passed (first_wrong 0 list.now) nothing }
+    ensures { result ≡ passed tt (first_wrong 0 list.now) nothing }
 {
-    let mut place = 0;
-    for variable in list {
-        if (*variable as usize) >= VARIABLES {
-            return Err(TableFault::NoVariable(Place::Listed(place)));
-        }
-        place += 1;
+    match list
+        .iter()
+        .position(|variable| usize::from(*variable) >= VARIABLES)
+    {
+        Some(place) => Err(TableFault::NoVariable(Place::Listed(place as u8))),
+        None => Ok(()),
     }
-    Ok(())
 }
 
-// Whether there is such a task, and its list and its reply buffer are right.
-pub(crate) fn check_list(task: u8, list: &[u8], room: usize) -> Result<(), TableFault>
-    ensures { result ≡ passed (wrong_list task list.now room) nothing }
+// The task of this number, if there is one, and its list and its reply buffer are right.
+pub(crate) fn check_list(task: u8, list: &[u8], room: usize) -> Result<Task, TableFault>
+    ensures { result ≡ passed task (wrong_list task list.now room) nothing }
 {
-    check_task(task)?;
+    let task = check_task(task)?;
     if list.is_empty() || list.len() > LONGEST_LIST {
         return Err(TableFault::ListLength);
     }
     if room < list.len() {
         return Err(TableFault::ShortBuffer);
     }
-    check_variables(list)
+    check_variables(list)?;
+    Ok(task)
 }
 
 impl<P: Policy> Table<P> {
     // Reads a list of variables, in order, into the front of a reply buffer. A refusal clears the buffer.
     pub(crate) fn read_list(
         &mut self,
-        task: u8,
+        task: Task,
         list: &[u8],
         reply: &mut [i32],
     ) -> Result<Collected, TableFault>
-        requires task { task < tasks }
         requires short { length list.now ≤ longest_list }
         requires room { length list.now ≤ length reply.old }
         requires named { first_wrong 0 list.now ≡ nothing }
-        ensures reads { ReadsList P.Policy.facts P.Policy.after task list.now self.old self.new.policy reply.new result }
+        ensures reads { ReadsList P.Policy task list.now self.old self.new.policy reply.new result }
         ensures leaves { Leaves list.now reply.old reply.new result }
         ensures stages { self.new.stages ≡ self.old.stages }
         ensures shared { self.new.shared ≡ self.old.shared }
     {
-        let mut place = 0;
-        for variable in list {
-            let value = self.look(task, *variable);
-            match self.policy.read(task, *variable) {
+        for (place, variable) in list.iter().enumerate() {
+            let variable = Variable { value: *variable };
+            let value = self.look(task, variable);
+            match self.policy.read(u8::from(task), u8::from(variable)) {
                 Ok(_) => reply[place] = value,
                 Err(fault) => {
                     clear(reply);
                     return Err(TableFault::Refused(Place::Listed(place as u8), fault));
                 }
             }
-            place += 1;
         }
-        Ok(Collected { reads: place })
+        Ok(Collected { reads: list.len() })
     }
 }

@@ -1,18 +1,17 @@
 // The making of a table.
-ghost use Rattle.std.specs.Prelude.{◌≡◌, replicate};
 ghost use Rattle.policy.specs.Limits.{tasks};
 ghost use Rattle.policy.specs.Facts.{Fresh};
 ghost use Rattle.history.specs.Runs.{New};
 ghost use Rattle.table.specs.Views.{view};
 ghost use Rattle.table.specs.Making.{AbortedBelow, LawFrom};
 
-use crate::stage::{Stage, zeros};
+use crate::stages::Stages;
 use crate::table::Table;
-use policy::{Policy, TASKS};
+use policy::{Policy, TASKS, VARIABLES};
 
 // Aborts every task that the policy has open.
 fn abort_all<P: Policy>(policy: &mut P)
-    ensures aborted { AbortedBelow P.Policy.facts P.Policy.after tasks policy.old policy.new }
+    ensures aborted { AbortedBelow P.Policy tasks policy.old policy.new }
     ensures fresh { Fresh (P.Policy.facts policy.new) }
 {
     for task in 0..TASKS as u8 {
@@ -20,26 +19,18 @@ fn abort_all<P: Policy>(policy: &mut P)
     }
 }
 
-// Every task is idle.
-fn all_idle() -> [Stage; TASKS]
-    ensures { result ≡ replicate tasks Stage.Idle }
-{
-    [Stage::Idle; TASKS]
-}
-
 impl<P: Policy> Table<P> {
     // A table over any policy. Whatever calls follow, the law holds of the history that they make.
-    pub fn new(policy: P) -> Table<P>
+    pub fn new(mut policy: P) -> Table<P>
         ensures new { New P.Policy.facts (view result) }
-        ensures aborted { AbortedBelow P.Policy.facts P.Policy.after tasks policy result.policy }
-        ensures law { LawFrom P.Policy.facts P.Policy.after P.Policy.STRICT (view result) }
+        ensures aborted { AbortedBelow P.Policy tasks policy result.policy }
+        ensures law { LawFrom P.Policy (view result) }
     {
-        let mut policy = policy;
         abort_all(&mut policy);
         Table {
             policy,
-            stages: all_idle(),
-            shared: zeros(),
+            stages: Stages::new(),
+            shared: [0; VARIABLES],
         }
     }
 }

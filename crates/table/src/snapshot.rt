@@ -5,7 +5,6 @@ ghost use Rattle.table.specs.Collect.{values_or, replied};
 ghost use Rattle.table.specs.Views.{Performs};
 
 use crate::answer::Collected;
-use crate::checks::admit;
 use crate::fault::TableFault;
 use crate::list::{check_list, clear};
 use crate::stage::Call;
@@ -21,20 +20,18 @@ impl<P: Policy> Table<P> {
         list: &[u8],
         reply: &mut [i32],
     ) -> Result<Collected, TableFault>
-        ensures step { Performs P.Policy.facts P.Policy.after P.Policy.STRICT (snapshots task list.now (length reply.old)) self.old (values_or list.now reply.new result) self.new }
+        ensures step { Performs P.Policy (snapshots task list.now (length reply.old)) self.old (values_or list.now reply.new result) self.new }
         ensures buffer { reply.new ≡ replied (values_or list.now reply.new result) (length reply.old) }
     {
         clear(reply);
-        check_list(task, list, reply.len())?;
-        admit(&mut self.stages, task, Call::Begin)?;
-        let _ = self.policy.begin(task)?;
+        let task = check_list(task, list, reply.len())?;
+        self.stages.admit(task, Call::Begin)?;
+        let _ = self.policy.begin(u8::from(task))?;
         let collected = self.read_list(task, list, reply)?;
-        match self.policy.commit(task) {
-            Ok(_) => Ok(collected),
-            Err(fault) => {
-                clear(reply);
-                Err(TableFault::from(fault))
-            }
+        if let Err(fault) = self.policy.commit(u8::from(task)) {
+            clear(reply);
+            return Err(TableFault::from(fault));
         }
+        Ok(collected)
     }
 }

@@ -1,11 +1,11 @@
 // What a table holds.
-use crate::stage::Stage;
-use policy::{Policy, TASKS, VARIABLES};
+use crate::stages::Stages;
+use policy::{Policy, VARIABLES};
 
 // The shared values, the stage of each task, and the policy that decides about conflicts.
 #[derive(Drop)]
 pub struct Table<P: Policy> {
     pub(crate) policy: P,
-    pub(crate) stages: [Stage; TASKS],
+    pub(crate) stages: Stages,
     pub(crate) shared: [i32; VARIABLES],
 }

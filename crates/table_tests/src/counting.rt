@@ -58,14 +58,10 @@ impl<P: Policy> Policy for Counting<P> {
     }
 
     fn read(&mut self, task: u8, variable: u8) -> Result<Granted, PolicyFault> {
-        match self.below.read(task, variable) {
-            Ok(granted) => {
-                let Counting { reads, .. } = self;
-                *reads = reads.wrapping_add(1);
-                Ok(granted)
-            }
-            Err(fault) => Err(fault),
-        }
+        let granted = self.below.read(task, variable)?;
+        let Counting { reads, .. } = self;
+        *reads = reads.wrapping_add(1);
+        Ok(granted)
     }
 
     fn write(&mut self, task: u8, variable: u8) -> Result<Granted, PolicyFault> {

@@ -7,6 +7,8 @@ use own::Own;
 use policy::Policy;
 use std::process::Abort;
 use std::test::Fail;
+use table::answer::Collected;
+use table::fault::TableFault;
 use table::table::Table;
 
 // One variable; several; one again and again; some again; as many as there may be, with and without repeats.
@@ -20,20 +22,30 @@ const LISTS: [&[u8]; 6] = [
 ];
 
 // Collects the list after a write of variable 7, which may stand in it.
-fn check_collect<P: Policy + Drop>(rt: &impl Abort, policy: P, list: &[u8]) -> Result<(), Fail> {
-    let mut table = Table::new(Counting::new(policy));
+fn collect<P: Policy>(
+    table: &mut Table<Counting<P>>,
+    list: &[u8],
+) -> Result<Collected, TableFault> {
     let _ = table.begin(0);
     let _ = table.write(0, 7, -1);
-    let mut reply = [0i32; 16];
-    let collected = table.collect(0, list, &mut reply)?;
-    assert_eq!(rt; collected.reads, table.into_policy().reads());
-    Ok(())
+    table.collect(0, list, &mut [0i32; 16])
 }
 
-fn check_snapshot<P: Policy + Drop>(rt: &impl Abort, policy: P, list: &[u8]) -> Result<(), Fail> {
+fn snapshot<P: Policy>(
+    table: &mut Table<Counting<P>>,
+    list: &[u8],
+) -> Result<Collected, TableFault> {
+    table.snapshot(7, list, &mut [0i32; 16])
+}
+
+// A call on the list reports the reads that the policy below has counted.
+fn check<P: Policy + Drop, F>(rt: &impl Abort, policy: P, list: &[u8], call: F) -> Result<(), Fail>
+where
+    F: FnOnce(&mut Table<Counting<P>>, &[u8]) -> Result<Collected, TableFault>,
+    requires { F.IsAlwaysCallable call }
+{
     let mut table = Table::new(Counting::new(policy));
-    let mut reply = [0i32; 16];
-    let collected = table.snapshot(7, list, &mut reply)?;
+    let collected = call(&mut table, list)?;
     assert_eq!(rt; collected.reads, table.into_policy().reads());
     Ok(())
 }
@@ -41,10 +53,10 @@ fn check_snapshot<P: Policy + Drop>(rt: &impl Abort, policy: P, list: &[u8]) -> 
 #[test]
 fn collects_report_the_reads_that_they_made(rt: HostRuntime) -> Result<(), Fail> {
     for list in LISTS {
-        check_collect(&rt, Lock::new(), list)?;
-        check_collect(&rt, Own::new(), list)?;
-        check_collect(&rt, Clock::new(0), list)?;
-        check_collect(&rt, Eager::new(Clock::new(0)), list)?;
+        check(&rt, Lock::new(), list, collect)?;
+        check(&rt, Own::new(), list, collect)?;
+        check(&rt, Clock::new(0), list, collect)?;
+        check(&rt, Eager::new(Clock::new(0)), list, collect)?;
     }
     Ok(())
 }
@@ -52,10 +64,10 @@ fn collects_report_the_reads_that_they_made(rt: HostRuntime) -> Result<(), Fail>
 #[test]
 fn snapshots_report_the_reads_that_they_made(rt: HostRuntime) -> Result<(), Fail> {
     for list in LISTS {
-        check_snapshot(&rt, Lock::new(), list)?;
-        check_snapshot(&rt, Own::new(), list)?;
-        check_snapshot(&rt, Clock::new(0), list)?;
-        check_snapshot(&rt, Eager::new(Own::new()), list)?;
+        check(&rt, Lock::new(), list, snapshot)?;
+        check(&rt, Own::new(), list, snapshot)?;
+        check(&rt, Clock::new(0), list, snapshot)?;
+        check(&rt, Eager::new(Own::new()), list, snapshot)?;
     }
     Ok(())
 }

@@ -61,38 +61,19 @@ fn lists_of_sixteen_and_of_seventeen(rt: HostRuntime) {
 // Zeros alone after a call that was sent wrongly or at the wrong time, in the order of checks.
 #[test]
 fn a_collect_that_never_came_to_the_policy_leaves_zeros(rt: HostRuntime) {
+    let calls: [(u8, &[u8], TableFault); 5] = [
+        (8, &[], TableFault::NoTask),
+        (7, &[], TableFault::ListLength),
+        (7, &[64, 1, 2, 3], TableFault::ShortBuffer),
+        (7, &[63, 64, 65], TableFault::NoVariable(Place::Listed(1))),
+        (7, &[63], TableFault::IsIdle),
+    ];
     let mut table = Table::new(Own::new());
-    let mut reply = [9i32; 3];
-    let none: [u8; 0] = [];
-    assert_eq!(rt;
-        table.collect(8, &none, &mut reply).err(),
-        Some(TableFault::NoTask)
-    );
-    assert_eq!(rt; reply, [0i32; 3]);
-    let mut reply = [9i32; 3];
-    assert_eq!(rt;
-        table.collect(7, &none, &mut reply).err(),
-        Some(TableFault::ListLength)
-    );
-    assert_eq!(rt; reply, [0i32; 3]);
-    let mut reply = [9i32; 3];
-    assert_eq!(rt;
-        table.collect(7, &[64, 1, 2, 3], &mut reply).err(),
-        Some(TableFault::ShortBuffer)
-    );
-    assert_eq!(rt; reply, [0i32; 3]);
-    let mut reply = [9i32; 3];
-    assert_eq!(rt;
-        table.collect(7, &[63, 64, 65], &mut reply).err(),
-        Some(TableFault::NoVariable(Place::Listed(1)))
-    );
-    assert_eq!(rt; reply, [0i32; 3]);
-    let mut reply = [9i32; 3];
-    assert_eq!(rt;
-        table.collect(7, &[63], &mut reply).err(),
-        Some(TableFault::IsIdle)
-    );
-    assert_eq!(rt; reply, [0i32; 3]);
+    for (task, list, fault) in calls {
+        let mut reply = [9i32; 3];
+        assert_eq!(rt; table.collect(task, list, &mut reply).err(), Some(fault));
+        assert_eq!(rt; reply, [0i32; 3]);
+    }
 }
 
 // The first values were granted and read before the refusal.

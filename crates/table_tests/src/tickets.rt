@@ -9,16 +9,13 @@ use table::table::Table;
 // Reads a variable in a transaction of its own, which ends before the return whatever was answered.
 fn read_once(table: &mut Table<Lock>, task: u8, variable: u8) -> Result<Reading, TableFault> {
     let ticket = table.begin_ticket(task)?;
-    match table.read_by(&ticket, variable) {
-        Ok(reading) => {
-            let _ = table.commit_by(ticket);
-            Ok(reading)
-        }
-        Err(fault) => {
-            let _ = table.abort_by(ticket);
-            Err(fault)
-        }
-    }
+    let answer = table.read_by(&ticket, variable);
+    let _ = if answer.is_ok() {
+        table.commit_by(ticket)
+    } else {
+        table.abort_by(ticket)
+    };
+    answer
 }
 
 // Reads a variable twice, and commits once.

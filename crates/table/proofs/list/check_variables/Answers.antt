@@ -1,19 +1,23 @@
-use Rattle.std.proofs.Common.{sym, ap, ◌∙◌, arith, rules}
+use Rattle.std.proofs.Common.{ℕ, ◌<◌, ◌≤◌, sym, ap, Some, None, arith, rules}
+use borrow.Author.Tests.{tests}
 use mathlib.Core.Option.{Option, none}
+use Rattle.std.proofs.lemmas.Iterator.{IsFirst-from_position, YieldsList-from_slice}
+use Rattle.policy.specs.Limits.{variables}
 use Rattle.history.specs.Calls.{Wrong}
 use Rattle.table.specs.Checks.{passed}
-use Rattle.table.proofs.ListChecks.{right_here, wrong_here, right_all}
+use Rattle.table.proofs.ListChecks.{wrong_first, wrong_nowhere}
 use Rattle.table.proofs.list.check_variables.Goals as goal
 
-pub returns-then-variable-ge-VARIABLES : goal.returns-then-variable-ge-VARIABLES
-returns-then-variable-ge-VARIABLES c =
-    ap (λ (o : Option Wrong). passed o none)
-    (sym (wrong_here c.loop-variable.place c.args.list.now (omega arith) (search rules)) ∙ c.loop-variable.invariant.1)
+pub returns-in-Some : goal.returns-in-Some
+returns-in-Some c =
+    let first =
+    IsFirst-from_position _ _ (Some c.in-Some.place) (λ (v : ℕ). variables ≤ v) (λ (v : ℕ). v < variables) c.in-Some.ensures.ran
+    (YieldsList-from_slice c.args.list.now cc) (λ x q k. search (rules, tests)) (λ x q k. search (rules, tests))
+    in ap (λ (o : Option Wrong). passed tt o none) (sym (wrong_first c.in-Some.place c.args.list.now first.0 (first.1 0) (λ k h. first.2 k 0 (omega arith) h)))
 
-pub loop-variable-preserved : goal.loop-variable-preserved
-loop-variable-preserved c =
-    (omega arith, sym (right_here c.loop-variable.place c.args.list.now (omega arith) (search rules)) ∙ c.loop-variable.invariant.1)
-
-pub returns : goal.returns
-returns c =
-    ap (λ (o : Option Wrong). passed o none) (sym (right_all c.loop-variable.place c.args.list.now (omega arith)) ∙ c.loop-variable.invariant.1)
+pub returns-in-None : goal.returns-in-None
+returns-in-None c =
+    let right =
+    IsFirst-from_position _ _ None (λ (v : ℕ). variables ≤ v) (λ (v : ℕ). v < variables) c.in-None.ensures.ran
+    (YieldsList-from_slice c.args.list.now cc) (λ x q k. search (rules, tests)) (λ x q k. search (rules, tests))
+    in ap (λ (o : Option Wrong). passed tt o none) (sym (wrong_nowhere c.args.list.now (λ k h. right k 0 (omega arith) h)))

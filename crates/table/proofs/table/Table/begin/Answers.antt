@@ -1,26 +1,19 @@
-use Rattle.std.proofs.Common.{◌≡◌, refl, ◌∙◌}
+use Rattle.std.proofs.Common.{refl, ◌∙◌}
 use Rattle.std.proofs.lemmas.List.{set-get_or}
 use Rattle.std.proofs.lemmas.Result.{err_from_is_err_and}
 use Rattle.history.specs.Calls.{begin}
 use Rattle.table.specs.declared.stage.Stage.TheVariants.{Idle}
 use Rattle.table.proofs.Beginning.{begin_granted}
-use Rattle.table.proofs.StepMaking.{unmoved_step, stepped}
+use Rattle.table.proofs.StepMaking.{turned_down}
 use Rattle.table.proofs.table.Table.begin.Goals as goal
 
-pub returns-in_err-check_call : goal.returns-in_err-check_call
-returns-in_err-check_call g c sound =
+pub returns-in_err-task : goal.returns-in_err-task
+returns-in_err-task g c sound =
     let p = err_from_is_err_and c.from_residual.result c.from_residual.ensures.1 in
-    let same = c.check_call.ensures.moved ∙ set-get_or c.args.self.now.stages c.args.task Idle in
-    rw (p.1, p.2)
-    (stepped g.P.Policy.facts g.P.Policy.after g.P.Policy.STRICT g.met.P.Policy.keeps g.met.P.Policy.proper (begin c.args.task) _ _ _ sound
-    (unmoved_step g.P.Policy.facts g.P.Policy.after g.P.Policy.STRICT (begin c.args.task) c.in_err-check_call.field-0.0
-    c.args.self.now.policy c.args.self.now.stages c.check_call.new.stages c.args.self.now.shared
-    c.in_err-check_call.ensures.answer same (λ x s. refl)))
+    rw (p.1, p.2) (turned_down g.P.Policy g.met.P.Policy.keeps g.met.P.Policy.proper c.args.task (begin c.args.task) c.in_err-task.field-0.0
+    c.args.self.now sound c.in_err-task.ensures.answer (c.check.ensures.moved ∙ set-get_or c.args.self.now.stages.all c.args.task Idle) (λ x s. refl))
 
 pub returns : goal.returns
 returns g c sound =
-    let same : c.check_call.new.stages ≡ c.args.self.now.stages =
-    c.check_call.ensures.moved ∙ set-get_or c.args.self.now.stages c.args.task Idle in
-    stepped g.P.Policy.facts g.P.Policy.after g.P.Policy.STRICT g.met.P.Policy.keeps g.met.P.Policy.proper (begin c.args.task) _ _ _ sound
-    (rw (c.open_task.ensures, same) (begin_granted g.P.Policy.facts g.P.Policy.after g.P.Policy.STRICT c.args.task c.args.self.now.policy c.begin.new.self
-    c.args.self.now.stages c.args.self.now.shared c.check_call.ensures.all c.in_ok-check_call.ensures.answer c.in_ok-granted.ensures.moved))
+    begin_granted g.P.Policy g.met.P.Policy.keeps g.met.P.Policy.proper c.args.task c.args.self.now c.begin.new.self sound
+    c.in_ok-task.ensures.answer c.check.ensures.moved c.from.ensures.0 c.in_ok-granted.ensures.moved c.set.ensures

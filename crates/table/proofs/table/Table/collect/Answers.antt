@@ -1,32 +1,29 @@
-use Rattle.std.proofs.Common.{◌≡◌, ℕ, ◌<◌, length, get_or, drop, replicate, pos, sym, refl, ap, ◌∙◌, arith}
-use mathlib.Core.Option.{none}
+use Rattle.std.proofs.Common.{◌≡◌, length, get_or, refl, sym, ◌∙◌, arith}
 use Rattle.std.proofs.lemmas.List.{set-get_or}
 use Rattle.std.proofs.lemmas.Result.{err_from_is_err_and}
 use Rattle.history.specs.Calls.{collect}
 use Rattle.history.specs.Answers.{wrong_list, must_be_active}
 use Rattle.table.specs.Faults.{refusal_of}
 use Rattle.table.specs.Views.{stage_of}
+use Rattle.table.specs.declared.stage.Call.TheVariants.{Access}
 use Rattle.table.specs.declared.stage.Stage.TheVariants.{Idle}
-use Rattle.table.proofs.Checking.{passed_ok, passed_anyway}
-use Rattle.table.proofs.ListChecks.{list_right}
-use Rattle.table.proofs.StepMaking.{unmoved_step, stepped}
-use Rattle.table.proofs.CollectSteps.{passed_late, replied_refusing, values_then_zeros, collect_granted, collect_refused}
+use Rattle.table.proofs.Checking.{passed_anyway}
+use Rattle.table.proofs.ListChecks.{list_right, passed_late, admitted}
+use Rattle.table.proofs.StepMaking.{turned_down}
+use Rattle.table.proofs.CollectSteps.{replied_refusing, left_over, collect_answered}
 use Rattle.table.proofs.table.Table.collect.Goals as goal
 
-pub returns-in_err-check_list : goal.returns-in_err-check_list
-returns-in_err-check_list g c =
+pub returns-in_err-task : goal.returns-in_err-task
+returns-in_err-task g c =
     let t = c.args.task in
     let vs = c.args.list.now in
     let s = c.args.self.now in
     let room = length c.args.reply.now in
     let len : length c.clear.new.reply ≡ room = omega arith in
-    let f = c.in_err-check_list.field-0.0 in
-    let e = rw len at c.in_err-check_list.ensures in
     let p = err_from_is_err_and c.from_residual.result c.from_residual.ensures.1 in
     record {
-      step = λ sound. rw (p.1, p.2) (stepped g.P.Policy.facts g.P.Policy.after g.P.Policy.STRICT g.met.P.Policy.keeps g.met.P.Policy.proper
-          (collect t vs room) _ _ _ sound (unmoved_step g.P.Policy.facts g.P.Policy.after g.P.Policy.STRICT (collect t vs room) f s.policy s.stages s.stages
-          s.shared (passed_anyway (wrong_list t vs room) (must_be_active (stage_of (get_or s.stages t Idle))) e) refl (λ x k. refl)));
+      step = λ sound. rw (p.1, p.2) (turned_down g.P.Policy g.met.P.Policy.keeps g.met.P.Policy.proper t (collect t vs room) c.in_err-task.field-0.0 s sound
+          (passed_anyway t (wrong_list t vs room) (must_be_active (stage_of (get_or s.stages.all t Idle))) (rw len at c.in_err-task.ensures)) refl (λ x k. refl));
       buffer = rw p.1 (c.clear.ensures ∙ sym (replied_refusing (refusal_of p.0) room));
     }
 
@@ -37,57 +34,28 @@ returns-in_err-admit g c =
     let s = c.args.self.now in
     let room = length c.args.reply.now in
     let len : length c.clear.new.reply ≡ room = omega arith in
-    let f = c.in_err-admit.field-0.0 in
     let p = err_from_is_err_and c.from_residual-in_err-admit.result c.from_residual-in_err-admit.ensures.1 in
-    let once = c.admit.ensures.moved ∙ set-get_or s.stages t Idle in
-    let late = passed_late (wrong_list t vs room) (must_be_active (stage_of (get_or s.stages t Idle))) (rw len at c.in_ok-check_list.ensures)
-    c.in_err-admit.ensures.answer
-    in
     record {
-      step = λ sound. rw (p.1, p.2) (stepped g.P.Policy.facts g.P.Policy.after g.P.Policy.STRICT g.met.P.Policy.keeps g.met.P.Policy.proper
-          (collect t vs room) _ _ _ sound (unmoved_step g.P.Policy.facts g.P.Policy.after g.P.Policy.STRICT (collect t vs room) f s.policy s.stages
-          c.admit.new.stages s.shared late once (λ x k. refl)));
+      step = λ sound. rw (p.1, p.2) (turned_down g.P.Policy g.met.P.Policy.keeps g.met.P.Policy.proper tt (collect t vs room) c.in_err-admit.field-0.0 s sound
+          (passed_late Access t vs room s.stages.all (rw len at c.in_ok-task.ensures) c.in_err-admit.ensures.answer)
+          (c.admit.ensures.moved ∙ set-get_or s.stages.all c.in_ok-task.task Idle) (λ x k. refl));
       buffer = rw p.1 (c.clear.ensures ∙ sym (replied_refusing (refusal_of p.0) room));
     }
 
-pub returns-in-Ok : goal.returns-in-Ok
-returns-in-Ok g c =
+pub returns : goal.returns
+returns g c =
     let t = c.args.task in
     let vs = c.args.list.now in
     let s = c.args.self.now in
-    let u = c.read_list.new.self in
     let room = length c.args.reply.now in
     let len : length c.clear.new.reply ≡ room = omega arith in
-    let once = c.admit.ensures.moved ∙ set-get_or s.stages t Idle in
-    let fine = (passed_ok (wrong_list t vs room) none (rw len at c.in_ok-check_list.ensures)).0 in
-    let timely = (passed_ok none (must_be_active (stage_of (get_or s.stages t Idle))) c.in_ok-admit.ensures.answer).1 in
-    let right = list_right t vs room fine in
-    let old : drop (length vs) c.read_list.new.reply ≡ drop (length vs) (replicate room (pos 0)) =
-    c.in-Ok.ensures.leaves ∙ ap (drop (length vs)) c.clear.ensures
-    in
+    let a = admitted Access t vs room (λ z. refl) (rw len at c.in_ok-task.ensures) c.in_ok-admit.ensures.answer c.admit.ensures.moved in
+    let right = list_right t vs room a.fine in
+    let same = c.break_if_refused.ensures.same in
     record {
-      step = λ sound. collect_granted g.P.Policy.facts g.P.Policy.after g.P.Policy.STRICT g.met.P.Policy.keeps g.met.P.Policy.proper t vs room
-          s.policy u.policy s.stages c.admit.new.stages u.stages s.shared u.shared once c.read_list.ensures.stages c.read_list.ensures.shared
-          fine timely sound c.in-Ok.collected.reads c.read_list.new.reply c.in-Ok.ensures.reads;
-      buffer = values_then_zeros (length vs) room c.read_list.new.reply (omega arith) old;
-    }
-
-pub returns-in-Err : goal.returns-in-Err
-returns-in-Err g c =
-    let t = c.args.task in
-    let vs = c.args.list.now in
-    let s = c.args.self.now in
-    let u = c.read_list.new.self in
-    let room = length c.args.reply.now in
-    let len : length c.clear.new.reply ≡ room = omega arith in
-    let once = c.admit.ensures.moved ∙ set-get_or s.stages t Idle in
-    let fine = (passed_ok (wrong_list t vs room) none (rw len at c.in_ok-check_list.ensures)).0 in
-    let timely = (passed_ok none (must_be_active (stage_of (get_or s.stages t Idle))) c.in_ok-admit.ensures.answer).1 in
-    let right = list_right t vs room fine in
-    let below : t < length s.stages = omega (arith, c.admit.ensures.all) in
-    record {
-      step = λ sound. collect_refused g.P.Policy.facts g.P.Policy.after g.P.Policy.STRICT g.met.P.Policy.keeps g.met.P.Policy.proper t vs room
-          s.policy u.policy s.stages c.admit.new.stages u.stages s.shared u.shared once c.read_list.ensures.stages c.read_list.ensures.shared
-          fine timely sound c.in-Err.fault c.break_task.new.stages c.break_task.ensures below c.in-Err.ensures.reads;
-      buffer = c.in-Err.ensures.leaves ∙ ap (λ (n : ℕ). replicate n (pos 0)) len ∙ sym (replied_refusing (refusal_of c.in-Err.fault) room);
+      step = λ sound. collect_answered g.P.Policy g.met.P.Policy.keeps g.met.P.Policy.proper t vs room s c.read_list-answer.new.self c.admit.new.self a
+          c.read_list-answer.ensures.stages c.read_list-answer.ensures.shared sound c.break_if_refused.result c.read_list-answer.new.reply
+          c.break_if_refused.new.self.all c.break_if_refused.ensures.moved (rw (← same) at c.read_list-answer.ensures.reads);
+      buffer = left_over c.break_if_refused.result vs room c.read_list-answer.new.reply (omega arith) (omega arith)
+          (rw (← same, c.clear.ensures) at c.read_list-answer.ensures.leaves);
     }

@@ -1,8 +1,8 @@
 use Rattle.std.proofs.Common.{◌≡◌, ℕ, ◌<◌, length, get_or, pos}
-use Rattle.policy.specs.Limits.{variables}
 use Rattle.table.specs.Views.{sight}
 use Rattle.table.proofs.table.Table.look_all.Given as goal
 
-abbrev pub invariant-loop-variable : goal.invariant-loop-variable
-invariant-loop-variable g l = (length l.seen ≡ variables)
-    × ((v : ℕ) → v < l.variable → get_or l.seen v (pos 0) ≡ sight g.P.Policy.facts l.self l.task v)
+-- the values before this place are what the task sees
+abbrev pub invariant-loop-place : goal.invariant-loop-place
+invariant-loop-place g l =
+    (length l.value-items ≡ length l.self.shared) × ((v : ℕ) → v < l.place → get_or l.value-items v (pos 0) ≡ sight g.P.Policy.facts l.self l.task v)

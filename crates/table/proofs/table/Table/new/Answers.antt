@@ -1,3 +1,5 @@
+use Rattle.std.proofs.Common.{refl, replicate, pos}
+use Rattle.policy.specs.Limits.{variables}
 use Rattle.history.specs.Runs.{New}
 use Rattle.table.specs.Views.{state}
 use Rattle.table.proofs.NewTable.{new_table, law_from}
@@ -5,11 +7,11 @@ use Rattle.table.proofs.table.Table.new.Goals as goal
 
 pub returns : goal.returns
 returns g c =
-    let made : New g.P.Policy.facts (state c.abort_all.new.policy c.all_idle.result c.zeros.result) =
-    new_table g.P.Policy.facts c.abort_all.new.policy c.all_idle.result c.zeros.result c.abort_all.ensures.fresh c.all_idle.ensures c.zeros.ensures in
+    let zeros = replicate variables (pos 0) in
+    let made : New g.P.Policy.facts (state c.abort_all.new.policy c.new.result.all zeros) =
+    new_table g.P.Policy c.abort_all.new.policy c.new.result.all zeros c.abort_all.ensures.fresh c.new.ensures refl in
     record {
       new = made;
       aborted = c.abort_all.ensures.aborted;
-      law = law_from g.P.Policy.facts g.P.Policy.after g.P.Policy.STRICT g.met.P.Policy.keeps g.met.P.Policy.proper
-          (state c.abort_all.new.policy c.all_idle.result c.zeros.result) made;
+      law = law_from g.P.Policy g.met.P.Policy.keeps g.met.P.Policy.proper (state c.abort_all.new.policy c.new.result.all zeros) made;
     }

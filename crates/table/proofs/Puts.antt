@@ -1,7 +1,7 @@
 -- The stages of all tasks with one of them changed.
-use Rattle.std.proofs.Common.{◌≡◌, ℕ, zero, suc, ◌<◌, ◌≤◌, ◌≢◌, List, [], ◌∷◌, length, get_or, set, ℤ, pos, sym, refl, ap, ◌∙◌, arith}
+use Rattle.std.proofs.Common.{◌≡◌, ℕ, ◌<◌, ◌≤◌, ◌≢◌, List, length, get_or, set, ℤ, pos, sym, refl, ap, ◌∙◌, arith}
 use native.Mathlib.Decide.{dec_lt}
-use Rattle.std.proofs.lemmas.List.{get_or-set_same, get_or-set_other, set_past}
+use Rattle.std.proofs.lemmas.List.{get_or-set_same, get_or-set_other, get_or_past, set_past}
 use Rattle.policy.specs.Limits.{variables}
 use Rattle.history.specs.Update.{at}
 use Rattle.history.specs.Answers.{active}
@@ -37,15 +37,9 @@ values_set xs v y h w = at_elim (λ (z : ℤ). get_or (set xs v y) w (pos 0) ≡
 -- it changes that variable alone
 pub pending_set : (s : Stage) (v : ℕ) (y : ℤ) → v < variables → Whole s → stage_of s ≡ active
     → (w : ℕ) → pending_in (with_pending s v y) w ≡ at (pending_in s) v y w
-pending_set Idle v y h whole e w = let z : ◌≡◌ {A = ℕ} 0 1 = cc in absurd (omega arith)
+pending_set Idle v y h whole e w = absurd (cc)
 pending_set (Open pending) v y h whole e w = values_set pending v y (omega arith) w
-pending_set Broken v y h whole e w = let z : ◌≡◌ {A = ℕ} 0 1 = cc in absurd (omega arith)
-
--- beyond the tasks there is nothing but the default
-pub idle_beyond : (xs : List Stage) (t : ℕ) → length xs ≤ t → get_or xs t Idle ≡ Idle
-idle_beyond [] t h = refl
-idle_beyond (x ∷ xs) zero h = absurd (omega arith)
-idle_beyond (x ∷ xs) (suc t) h = idle_beyond xs t (omega arith)
+pending_set Broken v y h whole e w = absurd (cc)
 
 called_idle : (call : Call) → once_called call Idle ≡ Idle
 called_idle Begin = refl
@@ -61,7 +55,7 @@ put_called call xs t = go (dec_lt t (length xs))
     go (yes h) = put_set xs t (once_called call (get_or xs t Idle)) h
     go (no h) =
         let k : length xs ≤ t = omega arith in
-        let i : get_or xs t Idle ≡ Idle = idle_beyond xs t k in
+        let i : get_or xs t Idle ≡ Idle = get_or_past xs t Idle k in
         record {
           own = rw (set_past xs t (once_called call (get_or xs t Idle)) k, i) (sym (called_idle call));
           others = λ u ne. get_or-set_other xs t u (once_called call (get_or xs t Idle)) Idle ne;
