@@ -1,5 +1,3 @@
-mod Adding
-mod Digits
 mod Lengths
 mod Obeying
 mod Standing

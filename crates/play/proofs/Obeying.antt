@@ -1,6 +1,7 @@
 -- A line is no command and changes nothing, or it is one call on the table.
 use Rattle.std.proofs.Common.{◌≡◌, ℕ, Bool, List, Ok, Err, Result, sym, refl, subst, arith}
 use mathlib.Core.Option.{Option, none, some}
+use Rattle.std.specs.Result.{MatchResult, IsErrAnd}
 use Rattle.schedule.specs.Grammar.{parsed}
 use Rattle.schedule.specs.Texts.{command_at}
 use Rattle.schedule.specs.declared.command.Command.{Command}
@@ -30,6 +31,18 @@ command_parsed n (Err why) c e = let z : ◌≡◌ {A = ℕ} 0 1 = cc in absurd 
 pub no_command_parsed : (n : ℕ) (x : Result Command Misfit) (bad : BadLine) → Err bad ≡ command_at n x → (why : Misfit) × (x ≡ Err why)
 no_command_parsed n (Ok d) bad e = let z : ◌≡◌ {A = ℕ} 0 1 = cc in absurd (omega arith)
 no_command_parsed n (Err why) bad e = (why, refl)
+
+-- what turns a fault keeps what was granted
+pub kept : {T E F : Type 0} (r : Result T E) (m : Result T F) (Q : E → F → Type 0) (x : T) → m ≡ Ok x
+    → MatchResult r (λ y. m ≡ Ok y) (λ why. IsErrAnd m (Q why)) → r ≡ Ok x
+kept (Ok y) m Q x e h = cc
+kept (Err why) m Q x e h = absurd (subst (λ z. IsErrAnd z (Q why)) e h)
+
+-- and a turned fault comes from a fault
+pub turned : {T E F : Type 0} (r : Result T E) (m : Result T F) (Q : E → F → Type 0) (f : F) → m ≡ Err f
+    → MatchResult r (λ y. m ≡ Ok y) (λ why. IsErrAnd m (Q why)) → (why : E) × (r ≡ Err why) × Q why f
+turned (Ok y) m Q f e h = let z : ◌≡◌ {A = ℕ} 0 1 = cc in absurd (omega arith)
+turned (Err why) m Q f e h = (why, refl, subst (λ z. IsErrAnd z (Q why)) e h)
 
 module _ {P : Type 0} (facts : P → Facts) (after : P → Move → P → Type 0) (strict : Bool) where
   refused_obeys : (l : List ℕ) (c : Command) (a b : State P) (o : Option Refusal) → parsed l ≡ Ok c → Makes facts after strict (call_of c) a (refusing o) b

@@ -86,7 +86,7 @@ most_printed_of_length n = longest_line * (min n longest_text + 1)
 
 -- how much room is always enough for what is printed of a text
 abbrev pub most_printed : List ℕ → ℕ
-most_printed text = longest_line * (min (length text) longest_text + 1)
+most_printed text = most_printed_of_length (length text)
 
 -- the buffer holds what is printed, and then zeros; zeros alone where there is no room for it
 abbrev pub Filled : List ℕ → List ℕ → Result ℕ NoRoom → List ℕ → Type 0
