@@ -1,3 +1,4 @@
+mod Digits
 mod Lengths
 mod Obeying
 mod Standing

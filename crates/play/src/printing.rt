@@ -1,11 +1,9 @@
 // What is printed of a line.
-ghost use Rattle.std.specs.Prelude.{◌++◌};
 ghost use Rattle.play.specs.Room.{SameBuffer, Adds, Within};
 ghost use Rattle.play.specs.Printed.{printed, reply_text, longest_reply, longest_line};
 
 use crate::outcome::{NoRoom, Outcome};
 use crate::room::Output;
-use itoa::Integer;
 use refusal::Refusal;
 use schedule::fault::TextFault;
 use table::fault::TableFault;
@@ -14,15 +12,6 @@ use table::fault::TableFault;
 pub(crate) type Reply = Result<Outcome, TextFault<TableFault>>;
 
 impl Output<'_> {
-    // A word, and the number that goes with it.
-    fn put_told<I: Integer>(&mut self, word: &[u8], number: I) -> Result<(), NoRoom>
-        ensures same_buffer { SameBuffer self.old self.new }
-        ensures added { Adds (word.now ++ I.text number) self.old result self.new }
-    {
-        self.put_text(word)?;
-        self.put_number(number)
-    }
-
     #[tactic(auto, using(crate::proofs::Lengths::value_short, crate::proofs::Lengths::refused_short))]
     fn put_reply(&mut self, reply: Reply) -> Result<(), NoRoom>
         ensures same_buffer { SameBuffer self.old self.new }
@@ -31,8 +20,14 @@ impl Output<'_> {
     {
         match reply {
             Ok(Outcome::Done) => self.put_text(b" ok"),
-            Ok(Outcome::Value(value)) => self.put_told(b" = ", value),
-            Err(fault) => self.put_told(b" no ", fault.number()),
+            Ok(Outcome::Value(value)) => {
+                self.put_text(b" = ")?;
+                self.put_value(value)
+            }
+            Err(fault) => {
+                self.put_text(b" no ")?;
+                self.put_number(fault.number() as u64)
+            }
         }
     }
 
@@ -43,7 +38,7 @@ impl Output<'_> {
         ensures added { Adds (printed line (reply_text reply)) self.old result self.new }
         ensures within { Within longest_line self.old result self.new }
     {
-        self.put_number(line)?;
+        self.put_number(line as u64)?;
         self.put_reply(reply)?;
         self.put_text(b"\n")
     }
