@@ -1,9 +1,7 @@
 -- A granted begin.
-use Rattle.std.proofs.Common.{◌≡◌, ℕ, zero, suc, ◌<◌, Bool, List, length, get_or, set, replicate, ℤ, pos, Ok, refl, arith}
+use Rattle.std.proofs.Common.{◌≡◌, ℕ, zero, suc, ◌<◌, List, length, get_or, set, replicate, ℤ, pos, Ok, refl, arith}
 use mathlib.Core.Option.{none}
 use Rattle.policy.specs.Limits.{tasks, variables}
-use Rattle.policy.specs.Facts.{Facts}
-use Rattle.policy.specs.Moves.{Move}
 use Rattle.policy.specs.Moves.{begin as begins}
 use Rattle.history.specs.Calls.{begin, done}
 use Rattle.history.specs.Answers.{must_be_idle}
@@ -15,6 +13,7 @@ use Rattle.table.specs.declared.stage.Stage.TheVariants.{Idle, Open}
 use Rattle.table.proofs.Checking.{passed_ok, task_right}
 use Rattle.table.proofs.Stages.{put_set}
 use Rattle.table.proofs.StepMaking.{plain_step}
+use Rattle.policy.specs.declared.Policy.{Ghosts}
 
 -- every value of an array of zeros is 0
 pub zero_at : (n v : ℕ) → get_or (replicate n (pos 0)) v (pos 0) ≡ pos 0
@@ -22,14 +21,14 @@ zero_at zero v = refl
 zero_at (suc n) zero = refl
 zero_at (suc n) (suc v) = zero_at n v
 
-module _ {P : Type 0} (facts : P → Facts) (after : P → Move → P → Type 0) (strict : Bool) where
+module _ {P : Type 0} (stated : Ghosts P) where
   pub begin_granted : {x : Unit {0}} (t : ℕ) (p q : P) (xs : List Stage) (ss : List ℤ)
       → length xs ≡ tasks
       → Ok x ≡ passed (task_wrong t) (must_be_idle (stage_of (get_or xs t Idle)))
-      → after p (begins t) q
-      → Step facts after strict (begin t) (state p xs ss) done (state q (set xs t (Open (replicate variables (pos 0)))) ss)
+      → stated.after p (begins t) q
+      → Step stated.facts stated.after stated.STRICT (begin t) (state p xs ss) done (state q (set xs t (Open (replicate variables (pos 0)))) ss)
   begin_granted t p q xs ss len e move =
-      plain_step facts after strict (begin t) done p q xs (set xs t (Open zeros)) (Open zeros) ss ss refl refl answered (q, move, refl)
+      plain_step stated (begin t) done p q xs (set xs t (Open zeros)) (Open zeros) ss ss refl refl answered (q, move, refl)
       (put_set xs t (Open zeros) below) refl (zero_at variables) (λ v. refl)
     where
       zeros : List ℤ
@@ -41,5 +40,5 @@ module _ {P : Type 0} (facts : P → Facts) (after : P → Move → P → Type 0
       below : t < length xs
       below = let h = task_right t ok.0 in omega arith
 
-      answered : done ≡ answer facts strict (begin t) (state p xs ss) p 0
+      answered : done ≡ answer stated.facts stated.STRICT (begin t) (state p xs ss) p 0
       answered = rw (ok.0, ok.1)

@@ -1,9 +1,7 @@
 -- A collect as a step of the histories' runs.
-use Rattle.std.proofs.Common.{◌≡◌, ℕ, ◌+◌, ◌-◌, ◌<◌, ◌≤◌, Bool, true, List, ◌∷◌, ◌++◌, map, length, get_or, take, drop, set, replicate, ℤ, pos, Ok, Err, sym, refl, ap, ◌∙◌, subst, arith}
+use Rattle.std.proofs.Common.{◌≡◌, ℕ, ◌+◌, ◌-◌, ◌<◌, ◌≤◌, true, List, ◌∷◌, ◌++◌, map, length, get_or, take, drop, set, replicate, ℤ, pos, Ok, Err, sym, refl, ap, ◌∙◌, subst, arith}
 use mathlib.Core.Option.{Option, none, some}
 use Rattle.std.proofs.lemmas.List.{take-append-drop, drop_more, length-take-le, drop-replicate}
-use Rattle.policy.specs.Facts.{Facts, Proper}
-use Rattle.policy.specs.Moves.{Move, Keeps}
 use Rattle.history.specs.Calls.{collect, listed, Refusal, Wrong, Untimely, Answer, values, refused, read_barred, by_policy}
 use Rattle.history.specs.Answers.{look, must_be_active, wrong_list}
 use Rattle.history.specs.Steps.{State, Step, sees}
@@ -21,6 +19,8 @@ use Rattle.table.proofs.Checking.{passed_ok}
 use Rattle.table.proofs.Stages.{Put, put_set}
 use Rattle.table.proofs.StepMaking.{stepped}
 use Rattle.table.proofs.ListReads.{collecting}
+use Rattle.policy.specs.declared.Policy.{Ghosts}
+use Rattle.table.proofs.Policies.{Keeping, AlwaysProper}
 
 -- the place of a list at which it is cut in two
 pub cut_at : (vs : List ℕ) (i : ℕ) → i < length vs → take i vs ++ (get_or vs i 0 ∷ drop (i + 1) vs) ≡ vs
@@ -41,12 +41,12 @@ pub values_then_zeros : (n room : ℕ) (new : List ℤ) → n ≤ length new →
 values_then_zeros n room new h e =
     sym (take-append-drop n new) ∙ ap (λ (zs : List ℤ). take n new ++ zs) (e ∙ drop-replicate n room (pos 0) ∙ ap (λ (k : ℕ). replicate (room - k) (pos 0)) (sym (length-take-le n new h)))
 
-module _ {P : Type 0} (facts : P → Facts) (after : P → Move → P → Type 0) (strict : Bool)
-    (keeps : (p q : P) (m : Move) → after p m q → Keeps strict m (facts p) (facts q)) (proper : (p : P) → Proper (facts p))
+module _ {P : Type 0} (stated : Ghosts P)
+    (keeps : Keeping stated) (proper : AlwaysProper stated)
     (t : ℕ) (vs : List ℕ) (room : ℕ) (p q : P) (xs ys zs : List Stage) (ss ws : List ℤ) (once : ys ≡ xs) (stages : zs ≡ ys) (values-kept : ws ≡ ss)
-    (fine : wrong_list t vs room ≡ none) (timely : must_be_active (stage_of (get_or xs t Idle)) ≡ none) (sound : Sound facts (state p xs ss)) where
+    (fine : wrong_list t vs room ≡ none) (timely : must_be_active (stage_of (get_or xs t Idle)) ≡ none) (sound : Sound stated.facts (state p xs ss)) where
   -- the policy has the task in a transaction
-  in_one : (facts p).active t ≡ true
+  in_one : (stated.facts p).active t ≡ true
   in_one = sound.agree t ∙ ap in_transaction (is_active (stage_of (get_or xs t Idle)) timely)
 
   -- the table after the reads, but for the stage of the task
@@ -54,26 +54,26 @@ module _ {P : Type 0} (facts : P → Facts) (after : P → Move → P → Type 0
   after_reads = λ j. state q ((stages ∙ once) j) (values-kept j)
 
   pub collect_granted : (count : ℕ) (buffer : List ℤ)
-      → ((facts p).active t ≡ true → GrantedReads facts after t vs p q count × (take (length vs) buffer ≡ map (look (facts p) (state p ys ss).pending (state p ys ss).shared t) vs))
-      → Stepped facts after strict (collect t vs room) (state p xs ss) (some (values (take (length vs) buffer) count)) (state q zs ws)
+      → ((stated.facts p).active t ≡ true → GrantedReads stated t vs p q count × (take (length vs) buffer ≡ map (look (stated.facts p) (state p ys ss).pending (state p ys ss).shared t) vs))
+      → Stepped stated (collect t vs room) (state p xs ss) (some (values (take (length vs) buffer) count)) (state q zs ws)
   collect_granted count buffer reads =
-      stepped facts after strict keeps proper (collect t vs room) (state p xs ss) (some (values (take (length vs) buffer) count)) (state q zs ws) sound
-      (subst (λ (b : State P). Step facts after strict (collect t vs room) (state p xs ss) (values (take (length vs) buffer) count) b) (sym after_reads)
-      (subst (λ (l : List ℤ). Step facts after strict (collect t vs room) (state p xs ss) (values l count) (state q xs ss)) (sym seen)
-      (collect_step facts after strict keeps t room (state p xs ss) (state q xs ss) (λ v. refl) (λ u ne. refl) (λ u ne v. refl) vs count fine timely
-      (collecting facts after strict keeps t (reads in_one).0) refl (λ v. refl))))
+      stepped stated keeps proper (collect t vs room) (state p xs ss) (some (values (take (length vs) buffer) count)) (state q zs ws) sound
+      (subst (λ (b : State P). Step stated.facts stated.after stated.STRICT (collect t vs room) (state p xs ss) (values (take (length vs) buffer) count) b) (sym after_reads)
+      (subst (λ (l : List ℤ). Step stated.facts stated.after stated.STRICT (collect t vs room) (state p xs ss) (values l count) (state q xs ss)) (sym seen)
+      (collect_step stated.facts stated.after stated.STRICT keeps t room (state p xs ss) (state q xs ss) (λ v. refl) (λ u ne. refl) (λ u ne v. refl) vs count fine timely
+      (collecting stated keeps t (reads in_one).0) refl (λ v. refl))))
     where
-      seen : take (length vs) buffer ≡ map (sees facts (collect t vs room) (state p xs ss) p) vs
-      seen = (reads in_one).1 ∙ (λ j. map (look (facts p) (state p (once j) ss).pending (state p (once j) ss).shared t) vs)
+      seen : take (length vs) buffer ≡ map (sees stated.facts (collect t vs room) (state p xs ss) p) vs
+      seen = (reads in_one).1 ∙ (λ j. map (look (stated.facts p) (state p (once j) ss).pending (state p (once j) ss).shared t) vs)
 
-  pub collect_refused : (f : TableFault) (bs : List Stage) → bs ≡ set zs t Broken → t < length xs → ((facts p).active t ≡ true → RefusedRead facts after t vs p q f)
-      → Stepped facts after strict (collect t vs room) (state p xs ss) (refusing (refusal_of f)) (state q bs ws)
+  pub collect_refused : (f : TableFault) (bs : List Stage) → bs ≡ set zs t Broken → t < length xs → ((stated.facts p).active t ≡ true → RefusedRead stated t vs p q f)
+      → Stepped stated (collect t vs room) (state p xs ss) (refusing (refusal_of f)) (state q bs ws)
   collect_refused f bs broken h refusal =
-      stepped facts after strict keeps proper (collect t vs room) (state p xs ss) (refusing (refusal_of f)) (state q bs ws) sound
-      (subst (λ (b : State P). Makes facts after strict (collect t vs room) (state p xs ss) (refusing (refusal_of f)) b) (sym left)
-      (subst (λ (g : TableFault). Makes facts after strict (collect t vs room) (state p xs ss) (refusing (refusal_of g)) (state q (set xs t Broken) ss)) (sym r.told) step))
+      stepped stated keeps proper (collect t vs room) (state p xs ss) (refusing (refusal_of f)) (state q bs ws) sound
+      (subst (λ (b : State P). Makes stated (collect t vs room) (state p xs ss) (refusing (refusal_of f)) b) (sym left)
+      (subst (λ (g : TableFault). Makes stated (collect t vs room) (state p xs ss) (refusing (refusal_of g)) (state q (set xs t Broken) ss)) (sym r.told) step))
     where
-      r : RefusedRead facts after t vs p q f
+      r : RefusedRead stated t vs p q f
       r = refusal in_one
 
       i : ℕ
@@ -100,11 +100,11 @@ module _ {P : Type 0} (facts : P → Facts) (after : P → Move → P → Type 0
       at_place : length (take i vs) ≡ i
       at_place = let k = r.there in length-take-le i vs (omega arith)
 
-      step : Step facts after strict (collect t vs room) (state p xs ss) (bar i) (state q (set xs t Broken) ss)
+      step : Step stated.facts stated.after stated.STRICT (collect t vs room) (state p xs ss) (bar i) (state q (set xs t Broken) ss)
       step =
-          subst (λ (l : List ℕ). Step facts after strict (collect t l room) (state p xs ss) (bar i) (state q (set xs t Broken) ss)) whole
-          (subst (λ (n : ℕ). Step facts after strict (collect t cut room) (state p xs ss) (bar n) (state q (set xs t Broken) ss)) at_place
-          (collect_barred facts after strict keeps t room (state p xs ss) (state q (set xs t Broken) ss) (λ w. refl) (λ u ne. ap stage_of (put.others u ne))
+          subst (λ (l : List ℕ). Step stated.facts stated.after stated.STRICT (collect t l room) (state p xs ss) (bar i) (state q (set xs t Broken) ss)) whole
+          (subst (λ (n : ℕ). Step stated.facts stated.after stated.STRICT (collect t cut room) (state p xs ss) (bar n) (state q (set xs t Broken) ss)) at_place
+          (collect_barred stated.facts stated.after stated.STRICT keeps t room (state p xs ss) (state q (set xs t Broken) ss) (λ w. refl) (λ u ne. ap stage_of (put.others u ne))
           (λ u ne w. ap (λ (s : Stage). pending_in s w) (put.others u ne)) (take i vs) v (drop (i + 1) vs) r.before r.count
-          (subst (λ (l : List ℕ). wrong_list t l room ≡ none) (sym whole) fine) timely in_one (collecting facts after strict keeps t r.earlier) r.barred r.move
+          (subst (λ (l : List ℕ). wrong_list t l room ≡ none) (sym whole) fine) timely in_one (collecting stated keeps t r.earlier) r.barred r.move
           (ap stage_of put.own) (λ w. ap (λ (s : Stage). pending_in s w) put.own)))

@@ -1,3 +1,4 @@
+pub mod Policies
 pub mod Checking
 pub mod Stages
 pub mod StepMaking

@@ -1,8 +1,7 @@
 -- Steps made of what a call has found and done.
-use Rattle.std.proofs.Common.{◌≡◌, ℕ, Bool, ◌⊎◌, List, [], get_or, ℤ, pos, Err, sym, refl, ap, ◌∙◌, subst, inl, inr}
+use Rattle.std.proofs.Common.{◌≡◌, ℕ, ◌⊎◌, List, [], get_or, ℤ, pos, Err, sym, refl, ap, ◌∙◌, subst, inl, inr}
 use mathlib.Core.Option.{Option, none, some}
-use Rattle.policy.specs.Facts.{Facts, Proper}
-use Rattle.policy.specs.Moves.{Move, Keeps}
+use Rattle.policy.specs.Moves.{Move}
 use Rattle.history.specs.Calls.{Call, begin, read, write, collect, snapshot, commit, abort, task, Refusal, Wrong, Untimely, Answer, refused, sent_wrongly, at_wrong_time}
 use Rattle.history.specs.Answers.{Stage as HistoryStage, wrong, untimely, barred, granted, checked}
 use Rattle.history.specs.Steps.{State, Step, Chain, ReadsFor, none_made, answer, sees, first_moves, granted_reads, last_moves, stage_after, pending_after, shared_after}
@@ -17,6 +16,8 @@ use Rattle.table.specs.declared.stage.Stage.{Stage}
 use Rattle.table.specs.declared.stage.Stage.TheVariants.{Idle}
 use Rattle.table.proofs.Checking.{passed_err, wrong_refusal, untimely_refusal}
 use Rattle.table.proofs.Stages.{Put, put_same}
+use Rattle.policy.specs.declared.Policy.{Ghosts}
+use Rattle.table.proofs.Policies.{Keeping, AlwaysProper}
 
 -- a call that was sent wrongly leaves the stage of its task
 wrong_stage : (c : Call) (x : Wrong) (s : HistoryStage) → stage_after c (refused (sent_wrongly x)) s ≡ s
@@ -28,23 +29,23 @@ wrong_stage (snapshot t vs room) x s = refl
 wrong_stage (commit t) x s = refl
 wrong_stage (abort t) x s = refl
 
-module _ {P : Type 0} (facts : P → Facts) (after : P → Move → P → Type 0) (strict : Bool) where
+module _ {P : Type 0} (stated : Ghosts P) where
   -- a call that makes neither a begin of its own nor reads
   pub plain_step : (c : Call) (r : Answer) (p q : P) (xs ys : List Stage) (s : Stage) (ss zs : List ℤ)
       → first_moves c r ≡ [] → granted_reads c r ≡ []
-      → r ≡ answer facts strict c (state p xs ss) p 0
-      → Chain after (last_moves c (stage_of (get_or xs (task c) Idle)) r) p q
+      → r ≡ answer stated.facts stated.STRICT c (state p xs ss) p 0
+      → Chain stated.after (last_moves c (stage_of (get_or xs (task c) Idle)) r) p q
       → Put xs (task c) s ys
       → stage_of s ≡ stage_after c r (stage_of (get_or xs (task c) Idle))
       → ((v : ℕ) → pending_in s v ≡ pending_after c r (pending_in (get_or xs (task c) Idle)) v)
-      → ((v : ℕ) → get_or zs v (pos 0) ≡ shared_after c r (sees facts c (state p xs ss) p) (λ w. get_or ss w (pos 0)) v)
-      → Step facts after strict c (state p xs ss) r (state q ys zs)
+      → ((v : ℕ) → get_or zs v (pos 0) ≡ shared_after c r (sees stated.facts c (state p xs ss) p) (λ w. get_or ss w (pos 0)) v)
+      → Step stated.facts stated.after stated.STRICT c (state p xs ss) r (state q ys zs)
   plain_step c r p q xs ys s ss zs first reads answered moves put stage pending shared = record {
     opened = p;
     between = p;
     reads = [];
     answered = answered;
-    opening = subst (λ (ms : List Move). Chain after ms p p) (sym first) refl;
+    opening = subst (λ (ms : List Move). Chain stated.after ms p p) (sym first) refl;
     reads_made = subst (λ (vs : List ℕ). ReadsFor vs []) (sym reads) none_made;
     reading = refl;
     closing = moves;
@@ -58,16 +59,16 @@ module _ {P : Type 0} (facts : P → Facts) (after : P → Move → P → Type 0
   -- a call that never came to the policy
   unasked_step : (c : Call) (r : Answer) (p : P) (xs ys : List Stage) (s : Stage) (ss : List ℤ)
       → Unasked c (stage_of (get_or xs (task c) Idle)) r
-      → r ≡ answer facts strict c (state p xs ss) p 0
+      → r ≡ answer stated.facts stated.STRICT c (state p xs ss) p 0
       → Put xs (task c) s ys
       → stage_of s ≡ stage_after c r (stage_of (get_or xs (task c) Idle))
       → ((v : ℕ) → pending_in s v ≡ pending_in (get_or xs (task c) Idle) v)
-      → Step facts after strict c (state p xs ss) r (state p ys ss)
+      → Step stated.facts stated.after stated.STRICT c (state p xs ss) r (state p ys ss)
   unasked_step c r p xs ys s ss u answered put stage pending =
       plain_step c r p p xs ys s ss ss u.first u.reads answered
-      (subst (λ (ms : List Move). Chain after ms p p) (sym u.last) refl) put stage
+      (subst (λ (ms : List Move). Chain stated.after ms p p) (sym u.last) refl) put stage
       (λ v. pending v ∙ sym (ap (λ (f : ℕ → ℤ). f v) (u.pending (pending_in (get_or xs (task c) Idle)))))
-      (λ v. sym (ap (λ (f : ℕ → ℤ). f v) (u.shared (sees facts c (state p xs ss) p) (λ w. get_or ss w (pos 0)))))
+      (λ v. sym (ap (λ (f : ℕ → ℤ). f v) (u.shared (sees stated.facts c (state p xs ss) p) (λ w. get_or ss w (pos 0)))))
 
   -- a call that the checks turned down; s is the stage that it leaves
   pub refused_step : (c : Call) (f : TableFault) (p : P) (xs ys : List Stage) (s : Stage) (ss : List ℤ)
@@ -77,23 +78,23 @@ module _ {P : Type 0} (facts : P → Facts) (after : P → Move → P → Type 0
       → ((x : Untimely) → untimely c (stage_of (get_or xs (task c) Idle)) ≡ some x
       → stage_of s ≡ stage_after c (refused (at_wrong_time x)) (stage_of (get_or xs (task c) Idle)))
       → ((v : ℕ) → pending_in s v ≡ pending_in (get_or xs (task c) Idle) v)
-      → Makes facts after strict c (state p xs ss) (refusing (refusal_of f)) (state p ys ss)
+      → Makes stated c (state p xs ss) (refusing (refusal_of f)) (state p ys ss)
   refused_step c f p xs ys s ss e put kept late pending = go (passed_err (wrong c) (untimely c before) e)
     where
       before : HistoryStage
       before = stage_of (get_or xs (task c) Idle)
 
       answer_is : (w : Option Wrong) (y : Option Untimely) → wrong c ≡ w → untimely c before ≡ y
-          → answer facts strict c (state p xs ss) p 0 ≡ checked w y (barred strict (facts p) c) (granted (sees facts c (state p xs ss) p) 0 c)
+          → answer stated.facts stated.STRICT c (state p xs ss) p 0 ≡ checked w y (barred stated.STRICT (stated.facts p) c) (granted (sees stated.facts c (state p xs ss) p) 0 c)
       answer_is w y i j = rw (i, j)
 
-      made : (why : Refusal) → refusal_of f ≡ some why → Step facts after strict c (state p xs ss) (refused why) (state p ys ss)
-          → Makes facts after strict c (state p xs ss) (refusing (refusal_of f)) (state p ys ss)
-      made why is step = subst (λ (o : Option Refusal). Makes facts after strict c (state p xs ss) (refusing o) (state p ys ss)) (sym is) step
+      made : (why : Refusal) → refusal_of f ≡ some why → Step stated.facts stated.after stated.STRICT c (state p xs ss) (refused why) (state p ys ss)
+          → Makes stated c (state p xs ss) (refusing (refusal_of f)) (state p ys ss)
+      made why is step = subst (λ (o : Option Refusal). Makes stated c (state p xs ss) (refusing o) (state p ys ss)) (sym is) step
 
       go : ((x : Wrong) × (wrong c ≡ some x) × (f ≡ wrong_fault x))
           ⊎ ((x : Untimely) × (wrong c ≡ none) × (untimely c before ≡ some x) × (f ≡ untimely_fault x))
-          → Makes facts after strict c (state p xs ss) (refusing (refusal_of f)) (state p ys ss)
+          → Makes stated c (state p xs ss) (refusing (refusal_of f)) (state p ys ss)
       go (inl k) =
           let x = k.0 in let w = k.1 in let i = k.2 in
           made (sent_wrongly x) (ap refusal_of i ∙ wrong_refusal x)
@@ -110,14 +111,14 @@ module _ {P : Type 0} (facts : P → Facts) (after : P → Move → P → Type 0
       → Err f ≡ passed (wrong c) (untimely c (stage_of (get_or xs (task c) Idle)))
       → ys ≡ xs
       → ((x : Untimely) (s : HistoryStage) → stage_after c (refused (at_wrong_time x)) s ≡ s)
-      → Makes facts after strict c (state p xs ss) (refusing (refusal_of f)) (state p ys ss)
+      → Makes stated c (state p xs ss) (refusing (refusal_of f)) (state p ys ss)
   unmoved_step c f p xs ys ss e same late =
-      subst (λ (zs : List Stage). Makes facts after strict c (state p xs ss) (refusing (refusal_of f)) (state p zs ss)) (sym same)
+      subst (λ (zs : List Stage). Makes stated c (state p xs ss) (refusing (refusal_of f)) (state p zs ss)) (sym same)
       (refused_step c f p xs xs (get_or xs (task c) Idle) ss e (put_same xs (task c)) (λ x w. refl)
       (λ x y. sym (late x (stage_of (get_or xs (task c) Idle)))) (λ v. refl))
 
-  module _ (keeps : (p q : P) (m : Move) → after p m q → Keeps strict m (facts p) (facts q)) (proper : (p : P) → Proper (facts p)) where
+  module _ (keeps : Keeping stated) (proper : AlwaysProper stated) where
     -- what a call makes of a sound table is sound
-    pub stepped : (c : Call) (a : State P) (r : Option Answer) (b : State P) → Sound facts a → Makes facts after strict c a r b → Stepped facts after strict c a r b
+    pub stepped : (c : Call) (a : State P) (r : Option Answer) (b : State P) → Sound stated.facts a → Makes stated c a r b → Stepped stated c a r b
     stepped c a none b sound m = absurd m
-    stepped c a (some r) b sound m = record { makes = m; sound = step_sound facts after strict keeps proper m sound }
+    stepped c a (some r) b sound m = record { makes = m; sound = step_sound stated.facts stated.after stated.STRICT keeps proper m sound }

@@ -1,9 +1,10 @@
 -- What a collect or a snapshot finds, and what it leaves in its reply buffer.
 use Rattle.std.specs.Prelude.{◌≡◌, ℕ, ◌<◌, true, false, List, map, length, take, drop, replicate, ℤ, pos, Ok, Err, Result, slice_index}
 use Rattle.std.proofs.Math.Option.{Option, none, some}
-use Rattle.policy.specs.Facts.{Facts, may_read}
-use Rattle.policy.specs.Moves.{Move, read_refused}
+use Rattle.policy.specs.Facts.{may_read}
+use Rattle.policy.specs.Moves.{read_refused}
 use Rattle.policy.specs.Moves.{read as reads_variable}
+use Rattle.policy.specs.declared.Policy.{Ghosts}
 use Rattle.policy.specs.declared.PolicyFault.TheVariants.{ReadBarred}
 use Rattle.history.specs.Calls.{Answer, values, reply}
 use Rattle.history.specs.Answers.{first_barred}
@@ -31,13 +32,14 @@ abbrev pub Leaves : List ℕ → List ℤ → List ℤ → Result Collected Tabl
 Leaves vs old new (Ok c) = drop (length vs) new ≡ drop (length vs) old
 Leaves vs old new (Err f) = new ≡ replicate (length old) (pos 0)
 
-module _ {P : Type 0} (facts : P → Facts) (after : P → Move → P → Type 0) (t : ℕ) where
+-- over a policy, by what it states of itself
+module _ {P : Type 0} (stated : Ghosts P) (t : ℕ) where
   -- from the policy p, task t was granted the variables of a list with `count` reads, which left the policy at q
   pub record GrantedReads (vs : List ℕ) (p q : P) (count : ℕ) : Type 0 where
     pub reads : List ℕ
     pub made_for : ReadsFor vs reads
-    pub chain : Chain after (map (reads_variable t) reads) p q
-    pub granted : first_barred (facts p) t 0 vs ≡ none
+    pub chain : Chain stated.after (map (reads_variable t) reads) p q
+    pub granted : first_barred (stated.facts p) t 0 vs ≡ none
     pub counted : length reads ≡ count
 
   -- the policy granted the variables before a place of the list, and refused the one there, which the fault tells
@@ -47,15 +49,15 @@ module _ {P : Type 0} (facts : P → Facts) (after : P → Move → P → Type 0
     pub before : P
     pub count : ℕ
     pub earlier : GrantedReads (take place vs) p before count
-    pub barred : may_read (facts before) t (slice_index vs place) ≡ false
-    pub move : after before (read_refused t (slice_index vs place)) q
+    pub barred : may_read (stated.facts before) t (slice_index vs place) ≡ false
+    pub move : stated.after before (read_refused t (slice_index vs place)) q
     pub told : f ≡ Refused (Listed place) (ReadBarred (slice_index vs place))
 
   -- the reads of a list by task t of the table s, which leave the policy at q: the values stand at the front of the buffer
   abbrev pub Gathers : List ℕ → Table P → P → List ℤ → Result Collected TableFault → Type 0
-  Gathers vs s q buffer (Ok c) = GrantedReads vs s.policy q c.reads × (take (length vs) buffer ≡ map (sight facts s t) vs)
+  Gathers vs s q buffer (Ok c) = GrantedReads vs s.policy q c.reads × (take (length vs) buffer ≡ map (sight stated.facts s t) vs)
   Gathers vs s q buffer (Err f) = RefusedRead vs s.policy q f
 
   -- what the reads of a list come to where task t is in a transaction
   abbrev pub ReadsList : List ℕ → Table P → P → List ℤ → Result Collected TableFault → Type 0
-  ReadsList vs s q buffer r = (facts s.policy).active t ≡ true → Gathers vs s q buffer r
+  ReadsList vs s q buffer r = (stated.facts s.policy).active t ≡ true → Gathers vs s q buffer r

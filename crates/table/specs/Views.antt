@@ -1,9 +1,9 @@
 -- What a table means: a state of the histories' runs, and each call's result as an answer there.
-use Rattle.std.specs.Prelude.{ℕ, Bool, List, ℤ, pos, Ok, Err, Result, slice_index_or}
+use Rattle.std.specs.Prelude.{ℕ, List, ℤ, pos, Ok, Err, Result, slice_index_or}
 use Rattle.std.proofs.Math.Option.{Option, none, some}
 use Rattle.policy.specs.Facts.{Facts}
-use Rattle.policy.specs.Moves.{Move}
 use Rattle.policy.specs.declared.Granted.{Granted}
+use Rattle.policy.specs.declared.Policy.{Ghosts}
 use Rattle.history.specs.Calls.{Call, Answer, done, value, refused, Refusal}
 use Rattle.history.specs.Answers.{Stage as HistoryStage, idle, active, broken, look}
 use Rattle.history.specs.Steps.{State, Step}
@@ -57,17 +57,18 @@ abbrev pub value_or : Result Reading TableFault → Option Answer
 value_or (Ok reading) = some (value reading.value)
 value_or (Err f) = refusing (refusal_of f)
 
-module _ {P : Type 0} (facts : P → Facts) (after : P → Move → P → Type 0) (strict : Bool) where
+-- over a policy, by what it states of itself: its facts, its moves and whether it is strict
+module _ {P : Type 0} (stated : Ghosts P) where
   -- the call is a step of the histories' runs, and its answer is one that they know
   abbrev pub Makes : Call → State P → Option Answer → State P → Type 0
   Makes c a none b = ⊥
-  Makes c a (some r) b = Step facts after strict c a r b
+  Makes c a (some r) b = Step stated.facts stated.after stated.STRICT c a r b
 
   -- the call is such a step, and stages and policy agree after it
   pub record Stepped (c : Call) (a : State P) (r : Option Answer) (b : State P) : Type 0 where
     pub makes : Makes c a r b
-    pub sound : Sound facts b
+    pub sound : Sound stated.facts b
 
   -- what a call does to a table whose stages and policy agree
   abbrev pub Performs : Call → Table P → Option Answer → Table P → Type 0
-  Performs c s r t = Sound facts (view s) → Stepped c (view s) r (view t)
+  Performs c s r t = Sound stated.facts (view s) → Stepped c (view s) r (view t)

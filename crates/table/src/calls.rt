@@ -13,7 +13,7 @@ use policy::{Granted, Policy};
 impl<P: Policy> Table<P> {
     // Begins a transaction.
     pub fn begin(&mut self, task: u8) -> Result<Granted, TableFault>
-        ensures { Performs P.Policy.facts P.Policy.after P.Policy.STRICT (begins task) self.old (done_or result) self.new }
+        ensures { Performs P.Policy (begins task) self.old (done_or result) self.new }
     {
         check_call(&mut self.stages, task, Call::Begin)?;
         let granted = self.policy.begin(task)?;
@@ -23,7 +23,7 @@ impl<P: Policy> Table<P> {
 
     // Reads a variable.
     pub fn read(&mut self, task: u8, variable: u8) -> Result<Reading, TableFault>
-        ensures { Performs P.Policy.facts P.Policy.after P.Policy.STRICT (reads task variable) self.old (value_or result) self.new }
+        ensures { Performs P.Policy (reads task variable) self.old (value_or result) self.new }
     {
         check_access_call(&mut self.stages, task, variable)?;
         let value = self.look(task, variable);
@@ -38,7 +38,7 @@ impl<P: Policy> Table<P> {
 
     // Writes a value, which is pending until the task commits.
     pub fn write(&mut self, task: u8, variable: u8, value: i32) -> Result<Granted, TableFault>
-        ensures { Performs P.Policy.facts P.Policy.after P.Policy.STRICT (writes task variable value) self.old (done_or result) self.new }
+        ensures { Performs P.Policy (writes task variable value) self.old (done_or result) self.new }
     {
         check_access_call(&mut self.stages, task, variable)?;
         match self.policy.write(task, variable) {
@@ -55,7 +55,7 @@ impl<P: Policy> Table<P> {
 
     // Ends the transaction: where the policy grants it, all pending values become the shared ones in one step.
     pub fn commit(&mut self, task: u8) -> Result<Granted, TableFault>
-        ensures { Performs P.Policy.facts P.Policy.after P.Policy.STRICT (commits task) self.old (done_or result) self.new }
+        ensures { Performs P.Policy (commits task) self.old (done_or result) self.new }
     {
         check_call(&mut self.stages, task, Call::Commit)?;
         let seen = self.look_all(task);
@@ -68,7 +68,7 @@ impl<P: Policy> Table<P> {
 
     // Ends the transaction and drops its pending values. The policy has ended that of a broken task already.
     pub fn abort(&mut self, task: u8) -> Result<Granted, TableFault>
-        ensures { Performs P.Policy.facts P.Policy.after P.Policy.STRICT (aborts task) self.old (done_or result) self.new }
+        ensures { Performs P.Policy (aborts task) self.old (done_or result) self.new }
     {
         check_call(&mut self.stages, task, Call::Abort)?;
         let _ = self.policy.abort(task);

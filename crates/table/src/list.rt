@@ -63,7 +63,7 @@ impl<P: Policy> Table<P> {
         requires short { length list.now ≤ longest_list }
         requires room { length list.now ≤ length reply.old }
         requires named { first_wrong 0 list.now ≡ nothing }
-        ensures reads { ReadsList P.Policy.facts P.Policy.after task list.now self.old self.new.policy reply.new result }
+        ensures reads { ReadsList P.Policy task list.now self.old self.new.policy reply.new result }
         ensures leaves { Leaves list.now reply.old reply.new result }
         ensures stages { self.new.stages ≡ self.old.stages }
         ensures shared { self.new.shared ≡ self.old.shared }

@@ -12,7 +12,7 @@ use policy::{Policy, TASKS};
 
 // Aborts every task that the policy has open.
 fn abort_all<P: Policy>(policy: &mut P)
-    ensures aborted { AbortedBelow P.Policy.facts P.Policy.after tasks policy.old policy.new }
+    ensures aborted { AbortedBelow P.Policy tasks policy.old policy.new }
     ensures fresh { Fresh (P.Policy.facts policy.new) }
 {
     for task in 0..TASKS as u8 {
@@ -31,8 +31,8 @@ impl<P: Policy> Table<P> {
     // A table over any policy. Whatever calls follow, the law holds of the history that they make.
     pub fn new(policy: P) -> Table<P>
         ensures new { New P.Policy.facts (view result) }
-        ensures aborted { AbortedBelow P.Policy.facts P.Policy.after tasks policy result.policy }
-        ensures law { LawFrom P.Policy.facts P.Policy.after P.Policy.STRICT (view result) }
+        ensures aborted { AbortedBelow P.Policy tasks policy result.policy }
+        ensures law { LawFrom P.Policy (view result) }
     {
         let mut policy = policy;
         abort_all(&mut policy);

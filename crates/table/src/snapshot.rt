@@ -21,7 +21,7 @@ impl<P: Policy> Table<P> {
         list: &[u8],
         reply: &mut [i32],
     ) -> Result<Collected, TableFault>
-        ensures step { Performs P.Policy.facts P.Policy.after P.Policy.STRICT (snapshots task list.now (length reply.old)) self.old (values_or list.now reply.new result) self.new }
+        ensures step { Performs P.Policy (snapshots task list.now (length reply.old)) self.old (values_or list.now reply.new result) self.new }
         ensures buffer { reply.new ≡ replied (values_or list.now reply.new result) (length reply.old) }
     {
         clear(reply);

@@ -18,7 +18,7 @@ pub struct Ticket {
 impl<P: Policy> Table<P> {
     // Begins a transaction, and hands out a ticket for its task.
     pub fn begin_ticket(&mut self, task: u8) -> Result<Ticket, TableFault>
-        ensures step { Performs P.Policy.facts P.Policy.after P.Policy.STRICT (begins task) self.old (ticket_or result) self.new }
+        ensures step { Performs P.Policy (begins task) self.old (ticket_or result) self.new }
         ensures ticket { HandsOut task result }
     {
         match self.begin(task) {
@@ -29,7 +29,7 @@ impl<P: Policy> Table<P> {
 
     // Reads a variable.
     pub fn read_by(&mut self, ticket: &Ticket, variable: u8) -> Result<Reading, TableFault>
-        ensures { Performs P.Policy.facts P.Policy.after P.Policy.STRICT (reads ticket.now.task variable) self.old (value_or result) self.new }
+        ensures { Performs P.Policy (reads ticket.now.task variable) self.old (value_or result) self.new }
     {
         self.read(ticket.task, variable)
     }
@@ -41,7 +41,7 @@ impl<P: Policy> Table<P> {
         variable: u8,
         value: i32,
     ) -> Result<Granted, TableFault>
-        ensures { Performs P.Policy.facts P.Policy.after P.Policy.STRICT (writes ticket.now.task variable value) self.old (done_or result) self.new }
+        ensures { Performs P.Policy (writes ticket.now.task variable value) self.old (done_or result) self.new }
     {
         self.write(ticket.task, variable, value)
     }
@@ -53,7 +53,7 @@ impl<P: Policy> Table<P> {
         list: &[u8],
         reply: &mut [i32],
     ) -> Result<Collected, TableFault>
-        ensures step { Performs P.Policy.facts P.Policy.after P.Policy.STRICT (collects ticket.now.task list.now (length reply.old)) self.old (values_or list.now reply.new result) self.new }
+        ensures step { Performs P.Policy (collects ticket.now.task list.now (length reply.old)) self.old (values_or list.now reply.new result) self.new }
         ensures buffer { reply.new ≡ replied (values_or list.now reply.new result) (length reply.old) }
     {
         self.collect(ticket.task, list, reply)
@@ -61,7 +61,7 @@ impl<P: Policy> Table<P> {
 
     // Commits. The ticket is spent, also where the commit is refused.
     pub fn commit_by(&mut self, ticket: Ticket) -> Result<Granted, TableFault>
-        ensures { Performs P.Policy.facts P.Policy.after P.Policy.STRICT (commits ticket.task) self.old (done_or result) self.new }
+        ensures { Performs P.Policy (commits ticket.task) self.old (done_or result) self.new }
     {
         let Ticket { task } = ticket;
         self.commit(task)
@@ -69,7 +69,7 @@ impl<P: Policy> Table<P> {
 
     // Aborts. The ticket is spent.
     pub fn abort_by(&mut self, ticket: Ticket) -> Result<Granted, TableFault>
-        ensures { Performs P.Policy.facts P.Policy.after P.Policy.STRICT (aborts ticket.task) self.old (done_or result) self.new }
+        ensures { Performs P.Policy (aborts ticket.task) self.old (done_or result) self.new }
     {
         let Ticket { task } = ticket;
         self.abort(task)

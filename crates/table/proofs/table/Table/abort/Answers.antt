@@ -12,8 +12,8 @@ returns-in_err-check_call g c sound =
     let p = err_from_is_err_and c.from_residual.result c.from_residual.ensures.1 in
     let same = c.check_call.ensures.moved ∙ set-get_or c.args.self.now.stages c.args.task Idle in
     rw (p.1, p.2)
-    (stepped g.P.Policy.facts g.P.Policy.after g.P.Policy.STRICT g.met.P.Policy.keeps g.met.P.Policy.proper (abort c.args.task) _ _ _ sound
-    (unmoved_step g.P.Policy.facts g.P.Policy.after g.P.Policy.STRICT (abort c.args.task) c.in_err-check_call.field-0.0
+    (stepped g.P.Policy g.met.P.Policy.keeps g.met.P.Policy.proper (abort c.args.task) _ _ _ sound
+    (unmoved_step g.P.Policy (abort c.args.task) c.in_err-check_call.field-0.0
     c.args.self.now.policy c.args.self.now.stages c.check_call.new.stages c.args.self.now.shared
     c.in_err-check_call.ensures.answer same (λ x s. refl)))
 
@@ -21,7 +21,7 @@ pub returns : goal.returns
 returns g c sound =
     let same : c.check_call.new.stages ≡ c.args.self.now.stages =
     c.check_call.ensures.moved ∙ set-get_or c.args.self.now.stages c.args.task Idle in
-    stepped g.P.Policy.facts g.P.Policy.after g.P.Policy.STRICT g.met.P.Policy.keeps g.met.P.Policy.proper (abort c.args.task) _ _ _ sound
-    (rw (c.end_task.ensures, same) (abort_granted g.P.Policy.facts g.P.Policy.after g.P.Policy.STRICT c.args.task c.args.self.now.policy c.abort.new.self
+    stepped g.P.Policy g.met.P.Policy.keeps g.met.P.Policy.proper (abort c.args.task) _ _ _ sound
+    (rw (c.end_task.ensures, same) (abort_granted g.P.Policy c.args.task c.args.self.now.policy c.abort.new.self
     c.args.self.now.stages c.args.self.now.shared c.check_call.ensures.all sound tt c.abort.result
     c.in_ok-check_call.ensures.answer c.abort.ensures.answer c.abort.ensures.moved))

@@ -24,8 +24,8 @@ returns-in_err-check_list g c =
     let e = rw len at c.in_err-check_list.ensures in
     let p = err_from_is_err_and c.from_residual.result c.from_residual.ensures.1 in
     record {
-      step = λ sound. rw (p.1, p.2) (stepped g.P.Policy.facts g.P.Policy.after g.P.Policy.STRICT g.met.P.Policy.keeps g.met.P.Policy.proper
-          (collect t vs room) _ _ _ sound (unmoved_step g.P.Policy.facts g.P.Policy.after g.P.Policy.STRICT (collect t vs room) f s.policy s.stages s.stages
+      step = λ sound. rw (p.1, p.2) (stepped g.P.Policy g.met.P.Policy.keeps g.met.P.Policy.proper
+          (collect t vs room) _ _ _ sound (unmoved_step g.P.Policy (collect t vs room) f s.policy s.stages s.stages
           s.shared (passed_anyway (wrong_list t vs room) (must_be_active (stage_of (get_or s.stages t Idle))) e) refl (λ x k. refl)));
       buffer = rw p.1 (c.clear.ensures ∙ sym (replied_refusing (refusal_of p.0) room));
     }
@@ -44,8 +44,8 @@ returns-in_err-admit g c =
     c.in_err-admit.ensures.answer
     in
     record {
-      step = λ sound. rw (p.1, p.2) (stepped g.P.Policy.facts g.P.Policy.after g.P.Policy.STRICT g.met.P.Policy.keeps g.met.P.Policy.proper
-          (collect t vs room) _ _ _ sound (unmoved_step g.P.Policy.facts g.P.Policy.after g.P.Policy.STRICT (collect t vs room) f s.policy s.stages
+      step = λ sound. rw (p.1, p.2) (stepped g.P.Policy g.met.P.Policy.keeps g.met.P.Policy.proper
+          (collect t vs room) _ _ _ sound (unmoved_step g.P.Policy (collect t vs room) f s.policy s.stages
           c.admit.new.stages s.shared late once (λ x k. refl)));
       buffer = rw p.1 (c.clear.ensures ∙ sym (replied_refusing (refusal_of p.0) room));
     }
@@ -66,7 +66,7 @@ returns-in-Ok g c =
     c.in-Ok.ensures.leaves ∙ ap (drop (length vs)) c.clear.ensures
     in
     record {
-      step = λ sound. collect_granted g.P.Policy.facts g.P.Policy.after g.P.Policy.STRICT g.met.P.Policy.keeps g.met.P.Policy.proper t vs room
+      step = λ sound. collect_granted g.P.Policy g.met.P.Policy.keeps g.met.P.Policy.proper t vs room
           s.policy u.policy s.stages c.admit.new.stages u.stages s.shared u.shared once c.read_list.ensures.stages c.read_list.ensures.shared
           fine timely sound c.in-Ok.collected.reads c.read_list.new.reply c.in-Ok.ensures.reads;
       buffer = values_then_zeros (length vs) room c.read_list.new.reply (omega arith) old;
@@ -86,7 +86,7 @@ returns-in-Err g c =
     let right = list_right t vs room fine in
     let below : t < length s.stages = omega (arith, c.admit.ensures.all) in
     record {
-      step = λ sound. collect_refused g.P.Policy.facts g.P.Policy.after g.P.Policy.STRICT g.met.P.Policy.keeps g.met.P.Policy.proper t vs room
+      step = λ sound. collect_refused g.P.Policy g.met.P.Policy.keeps g.met.P.Policy.proper t vs room
           s.policy u.policy s.stages c.admit.new.stages u.stages s.shared u.shared once c.read_list.ensures.stages c.read_list.ensures.shared
           fine timely sound c.in-Err.fault c.break_task.new.stages c.break_task.ensures below c.in-Err.ensures.reads;
       buffer = c.in-Err.ensures.leaves ∙ ap (λ (n : ℕ). replicate n (pos 0)) len ∙ sym (replied_refusing (refusal_of c.in-Err.fault) room);

@@ -16,7 +16,7 @@ loop-variable-init g c = (
   refl,
   refl,
   refl,
-  λ l. none_read g.P.Policy.facts g.P.Policy.after g.P.Policy.STRICT g.met.P.Policy.keeps c.args.task c.args.list.now
+  λ l. none_read g.P.Policy g.met.P.Policy.keeps c.args.task c.args.list.now
       c.args.self.now c.args.reply.now,
 )
 
@@ -25,7 +25,7 @@ returns-in-Err g c =
     let i = c.loop-variable.place in
     let h : i < length c.args.list.now = omega arith in
     record {
-      reads = λ l. barred_at g.P.Policy.facts g.P.Policy.after g.P.Policy.STRICT g.met.P.Policy.keeps c.args.task c.args.list.now
+      reads = λ l. barred_at g.P.Policy g.met.P.Policy.keeps c.args.task c.args.list.now
           c.args.self.now i c.loop-variable.self c.read.new.self c.loop-variable.reply h l (c.loop-variable.invariant.4 l)
           (g.met.P.Policy.proper c.loop-variable.self.policy) (named_at 0 c.args.list.now i c.requires.named h)
           (rw c.loop-variable.invariant.0 c.in-Err.ensures.answer)
@@ -49,7 +49,7 @@ loop-variable-preserved g c =
       rest,
       c.loop-variable.invariant.2,
       c.loop-variable.invariant.3,
-      λ l. one_more g.P.Policy.facts g.P.Policy.after g.P.Policy.STRICT g.met.P.Policy.keeps c.args.task c.args.list.now c.args.self.now i
+      λ l. one_more g.P.Policy g.met.P.Policy.keeps c.args.task c.args.list.now c.args.self.now i
           c.loop-variable.self c.read.new.self c.loop-variable.reply (omega arith) l (c.loop-variable.invariant.4 l) x (omega arith)
           c.loop-variable.invariant.2 c.loop-variable.invariant.3 (rw c.loop-variable.invariant.0 c.in-Ok.ensures.moved)
           (z ∙ rw c.loop-variable.invariant.0 c.look-value.ensures),
@@ -59,7 +59,7 @@ pub returns : goal.returns
 returns g c =
     let e : c.loop-variable.place ≡ length c.args.list.now = omega arith in
     record {
-      reads = λ l. all_read g.P.Policy.facts g.P.Policy.after g.P.Policy.STRICT g.met.P.Policy.keeps c.args.task c.args.list.now
+      reads = λ l. all_read g.P.Policy g.met.P.Policy.keeps c.args.task c.args.list.now
           c.args.self.now c.loop-variable.place c.loop-variable.self.policy c.loop-variable.reply e (c.loop-variable.invariant.4 l);
       leaves = rw e at c.loop-variable.invariant.1;
       stages = c.loop-variable.invariant.2;

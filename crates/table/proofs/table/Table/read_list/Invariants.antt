@@ -8,4 +8,4 @@ invariant-loop-variable g l =
     (l.place ≡ l.variable-index) × (drop l.place l.reply ≡ drop l.place l.initial.reply)
     × (l.self.stages ≡ l.initial.self.stages) × (l.self.shared ≡ l.initial.self.shared)
     × ((g.P.Policy.facts l.initial.self.policy).active l.task ≡ true
-    → ReadBefore g.P.Policy.facts g.P.Policy.after l.task l.list l.initial.self l.place l.self.policy l.reply)
+    → ReadBefore g.P.Policy l.task l.list l.initial.self l.place l.self.policy l.reply)

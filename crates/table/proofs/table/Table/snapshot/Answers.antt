@@ -26,8 +26,8 @@ returns-in_err-check_list g c =
     let e = rw len at c.in_err-check_list.ensures in
     let p = err_from_is_err_and c.from_residual.result c.from_residual.ensures.1 in
     record {
-      step = λ sound. rw (p.1, p.2) (stepped g.P.Policy.facts g.P.Policy.after g.P.Policy.STRICT g.met.P.Policy.keeps g.met.P.Policy.proper
-          (snapshot t vs room) _ _ _ sound (unmoved_step g.P.Policy.facts g.P.Policy.after g.P.Policy.STRICT (snapshot t vs room) f s.policy s.stages s.stages
+      step = λ sound. rw (p.1, p.2) (stepped g.P.Policy g.met.P.Policy.keeps g.met.P.Policy.proper
+          (snapshot t vs room) _ _ _ sound (unmoved_step g.P.Policy (snapshot t vs room) f s.policy s.stages s.stages
           s.shared (passed_anyway (wrong_list t vs room) (must_be_idle (stage_of (get_or s.stages t Idle))) e) refl (λ x k. refl)));
       buffer = rw p.1 (c.clear.ensures ∙ sym (replied_refusing (refusal_of p.0) room));
     }
@@ -46,8 +46,8 @@ returns-in_err-admit g c =
     c.in_err-admit.ensures.answer
     in
     record {
-      step = λ sound. rw (p.1, p.2) (stepped g.P.Policy.facts g.P.Policy.after g.P.Policy.STRICT g.met.P.Policy.keeps g.met.P.Policy.proper
-          (snapshot t vs room) _ _ _ sound (unmoved_step g.P.Policy.facts g.P.Policy.after g.P.Policy.STRICT (snapshot t vs room) f s.policy s.stages
+      step = λ sound. rw (p.1, p.2) (stepped g.P.Policy g.met.P.Policy.keeps g.met.P.Policy.proper
+          (snapshot t vs room) _ _ _ sound (unmoved_step g.P.Policy (snapshot t vs room) f s.policy s.stages
           c.admit.new.stages s.shared late once (λ x k. refl)));
       buffer = rw p.1 (c.clear.ensures ∙ sym (replied_refusing (refusal_of p.0) room));
     }
@@ -66,7 +66,7 @@ returns-in_err-collected g c =
     let f = c.in_err-collected.field-0.0 in
     let p = err_from_is_err_and c.from_residual-in_err-collected.result c.from_residual-in_err-collected.ensures.1 in
     record {
-      step = λ sound. rw (p.1, p.2) (snapshot_refused g.P.Policy.facts g.P.Policy.after g.P.Policy.STRICT g.met.P.Policy.keeps g.met.P.Policy.proper t vs room
+      step = λ sound. rw (p.1, p.2) (snapshot_refused g.P.Policy g.met.P.Policy.keeps g.met.P.Policy.proper t vs room
           s.policy c.begin.new.self u.policy s.stages c.admit.new.stages u.stages s.shared u.shared once c.read_list.ensures.stages
           c.read_list.ensures.shared fine timely sound c.in_ok-begin.ensures.moved f c.in_err-collected.ensures.reads);
       buffer = rw p.1 (c.in_err-collected.ensures.leaves ∙ ap (λ (n : ℕ). replicate n (pos 0)) len ∙ sym (replied_refusing (refusal_of p.0) room));
@@ -88,7 +88,7 @@ returns-in-Ok g c =
     c.in_ok-collected.ensures.leaves ∙ ap (drop (length vs)) c.clear.ensures
     in
     record {
-      step = λ sound. snapshot_granted g.P.Policy.facts g.P.Policy.after g.P.Policy.STRICT g.met.P.Policy.keeps g.met.P.Policy.proper t vs room
+      step = λ sound. snapshot_granted g.P.Policy g.met.P.Policy.keeps g.met.P.Policy.proper t vs room
           s.policy c.begin.new.self u.policy s.stages c.admit.new.stages u.stages s.shared u.shared once c.read_list.ensures.stages
           c.read_list.ensures.shared fine timely sound c.in_ok-begin.ensures.moved
           c.in_ok-collected.collected.reads c.read_list.new.reply c.commit.new.self c.in_ok-collected.ensures.reads
@@ -109,7 +109,7 @@ returns-in-Err g c =
     let timely = (passed_ok none (must_be_idle (stage_of (get_or s.stages t Idle))) c.in_ok-admit.ensures.answer).1 in
     let all : length c.read_list.new.reply ≡ room = omega arith in
     record {
-      step = λ sound. absurd (commit_never_refused g.P.Policy.facts g.P.Policy.after g.P.Policy.STRICT g.met.P.Policy.keeps g.met.P.Policy.proper t vs room
+      step = λ sound. absurd (commit_never_refused g.P.Policy g.met.P.Policy.keeps g.met.P.Policy.proper t vs room
           s.policy c.begin.new.self u.policy s.stages c.admit.new.stages u.stages s.shared u.shared once c.read_list.ensures.stages
           c.read_list.ensures.shared fine timely sound c.in_ok-begin.ensures.moved
           c.in_ok-collected.collected.reads (c.in_ok-collected.ensures.reads (g.met.P.Policy.keeps s.policy c.begin.new.self (begins t)
