@@ -1,15 +1,12 @@
 -- From the first line of a text to what is printed of all its lines.
-use Rattle.std.proofs.Common.{◌≡◌, ℕ, ◌+◌, ◌*◌, ◌<◌, ◌≤◌, Bool, true, false, cond, eqb, ltb, List, [], ◌∷◌, ◌++◌, length, take, Ok, Err, Result, sym, refl, ap, ◌∙◌, subst, arith, ltb-false}
+use Rattle.std.proofs.Common.{◌≡◌, ℕ, ◌+◌, ◌*◌, ◌<◌, ◌≤◌, Bool, true, false, cond, eqb, ltb, List, [], ◌∷◌, ◌++◌, length, take, Ok, Err, Result, refl, ap, ◌∙◌, subst, arith, ltb-false}
 use Rattle.schedule.specs.Pieces.{line_feed, longer, lines}
 use Rattle.schedule.specs.Texts.{longest_text, named_by, header_of}
 use Rattle.schedule.specs.Faults.{fault_line, fault_number}
 use Rattle.schedule.specs.declared.choice.Choice.{Choice}
 use Rattle.schedule.specs.declared.fault.TextFault.{TextFault}
 use Rattle.schedule.specs.declared.fault.TextFault.TheVariants.{TooLong}
-use Rattle.policy.specs.Facts.{Facts}
-use Rattle.policy.specs.Moves.{Move}
-use Rattle.eager.specs.declared.Eager.{Eager}
-use Rattle.eager.specs.Layer.{fenced, After as LayerAfter}
+use Rattle.policy.specs.declared.Policy.{Ghosts}
 use Rattle.table.specs.Faults.{numbered}
 use Rattle.table.specs.declared.fault.TableFault.{TableFault}
 use Rattle.play.specs.declared.outcome.NoRoom.{NoRoom}
@@ -17,7 +14,7 @@ use Rattle.play.specs.declared.room.Output.{Output}
 use Rattle.play.specs.Room.{text_of, Adds, Fronts}
 use Rattle.play.specs.Printed.{printed, refused_text, longest_line}
 use Rattle.play.specs.Playing.{Over}
-use Rattle.play.specs.Output.{From, FromEager, Runs, Says, most_printed}
+use Rattle.play.specs.Output.{From, Runs, Says, most_printed}
 
 -- a text has at most as many lines as bytes
 longer_by_one : (b : ℕ) (ps : List (List ℕ)) → length (longer b ps) ≤ length ps + 1
@@ -85,17 +82,8 @@ fronts_so S T ls o p (Err why) so x = record {
   longer = x.longer;
 }
 
-module _ {P : Type 0} (facts : P → Facts) (after : P → Move → P → Type 0) (strict : Bool) (Starts : P → Type 0) (ls : List (List ℕ)) (o q : Output)
-    (r : Result (Unit {0}) NoRoom) where
-  -- a policy that starts so is one of those that do
-  pub over_fronts : (p : P) → Starts p → Fronts (Over facts after strict p) ls o r q → Fronts (From facts after strict Starts) ls o r q
-  over_fronts p h =
-      fronts_so (Over facts after strict p) (From facts after strict Starts) ls o q r (λ done out x. record { policy = p; starts = h; over = x })
-
-  -- the same under the eager layer
-  pub eager_fronts : (e : Eager P) (p : P) → e.below ≡ p → Starts p
-      → Fronts (Over {P = Eager P} (λ x. fenced (facts x.below)) (λ x m y. LayerAfter facts strict after x.below m y.below) strict e) ls o r q
-      → Fronts (FromEager facts after strict Starts) ls o r q
-  eager_fronts e p below h =
-      fronts_so (Over {P = Eager P} (λ x. fenced (facts x.below)) (λ x m y. LayerAfter facts strict after x.below m y.below) strict e)
-      (FromEager facts after strict Starts) ls o q r (λ done out x. record { policy = e; starts = subst Starts (sym below) h; over = x })
+-- a policy that starts so is one of those that do
+pub over_fronts : {P : Type 0} (stated : Ghosts P) (Starts : P → Type 0) (ls : List (List ℕ)) (o q : Output) (r : Result (Unit {0}) NoRoom) (p : P)
+    → Starts p → Fronts (Over stated p) ls o r q → Fronts (From stated Starts) ls o r q
+over_fronts stated Starts ls o q r p h =
+    fronts_so (Over stated p) (From stated Starts) ls o q r (λ done out x. record { policy = p; starts = h; over = x })

@@ -1,12 +1,11 @@
 -- A text of which some lines have been run.
-use Rattle.std.proofs.Common.{◌≡◌, ℕ, ◌+◌, ◌*◌, ◌<◌, ◌≤◌, Bool, List, [], ◌∷◌, ◌++◌, length, take, drop, Some, None, Ok, Option, sym, refl, ap, ◌∙◌, subst, append_assoc, append-nil, arith, length-append, length-take}
+use Rattle.std.proofs.Common.{◌≡◌, ℕ, ◌+◌, ◌*◌, ◌<◌, ◌≤◌, List, [], ◌∷◌, ◌++◌, length, take, drop, Some, None, Ok, Option, sym, refl, ap, ◌∙◌, subst, append_assoc, append-nil, arith, length-append, length-take}
 use Rattle.schedule.specs.Lines.{HandsOut}
 use Rattle.schedule.specs.Pieces.{lines, lines_left}
 use Rattle.schedule.specs.declared.lines.Line.{Line}
 use Rattle.schedule.specs.declared.lines.Lines.{Lines}
 use Rattle.policy.specs.Limits.{tasks}
-use Rattle.policy.specs.Facts.{Facts}
-use Rattle.policy.specs.Moves.{Move}
+use Rattle.policy.specs.declared.Policy.{Ghosts}
 use Rattle.history.specs.Steps.{State}
 use Rattle.history.specs.Runs.{Sound, New}
 use Rattle.table.specs.Making.{AbortedBelow}
@@ -33,25 +32,25 @@ started text n before r next it all e h x =
     let k = ap length left in
     (ap (drop 1) (sym all.0) ∙ f.0 ∙ sym left, ap (λ (z : Lines). z.count) e ∙ f.1, omega (arith, l, k, f.2))
 
-module _ {P : Type 0} (facts : P → Facts) (after : P → Move → P → Type 0) (strict : Bool) where
+module _ {P : Type 0} (stated : Ghosts P) where
   -- of the lines `all` after the first, all but `left` were run, from the table a to b, and n lines have printed the text in o
   pub record Standing (a : State P) (all left : List (List ℕ)) (n : ℕ) (o : Output) (b : State P) : Type 0 where
     pub done : List (List ℕ)
     pub split : all ≡ done ++ left
-    pub plays : Plays facts after strict a n done (text_of o) b
-    pub sound : Sound facts b
+    pub plays : Plays stated a n done (text_of o) b
+    pub sound : Sound stated.facts b
     pub counted : n ≡ length done + 1
     pub short : o.used ≤ longest_line * n
 
   -- after the first line
-  pub standing_first : (a : State P) (all : List (List ℕ)) (n : ℕ) (o p : Output) (u : Unit {0}) → n ≡ 1 → Sound facts a → o.used ≡ 0
+  pub standing_first : (a : State P) (all : List (List ℕ)) (n : ℕ) (o p : Output) (u : Unit {0}) → n ≡ 1 → Sound stated.facts a → o.used ≡ 0
       → Adds (printed 1 granted_text) o (Ok u) p → p.used ≤ o.used + longest_line → Standing a all all n p a
   standing_first a all n o p u e h z x w =
       let whole : text_of p ≡ printed 1 granted_text = x.1 ∙ ap (λ (m : ℕ). take m o.room.now ++ printed 1 granted_text) z in record {
         done = [];
         split = refl;
-        plays = subst (λ (k : ℕ). Plays facts after strict a k [] (text_of p) a) (sym e)
-            (subst (λ (t : List ℕ). Plays facts after strict a 1 [] t a) (sym whole) first_line);
+        plays = subst (λ (k : ℕ). Plays stated a k [] (text_of p) a) (sym e)
+            (subst (λ (t : List ℕ). Plays stated a 1 [] t a) (sym whole) first_line);
         sound = h;
         counted = e;
         short = omega (arith, w, z, e);
@@ -59,28 +58,28 @@ module _ {P : Type 0} (facts : P → Facts) (after : P → Move → P → Type 0
 
   -- the lines so far, with one more
   grown : (a b d : State P) (all left : List (List ℕ)) (l : List ℕ) (n k : ℕ) (o : Output) (text : List ℕ) → k ≡ n + 1 → (x : Standing a all (l ∷ left) n o b)
-      → Obeyed facts after strict l b text d → Plays facts after strict a k (x.done ++ (l ∷ [])) (text_of o ++ printed k text) d
+      → Obeyed stated l b text d → Plays stated a k (x.done ++ (l ∷ [])) (text_of o ++ printed k text) d
   grown a b d all left l n k o text e x y =
-      subst (λ (m : ℕ). Plays facts after strict a m (x.done ++ (l ∷ [])) (text_of o ++ printed m text) d) (sym e) (next_line l text d x.plays y.obeys)
+      subst (λ (m : ℕ). Plays stated a m (x.done ++ (l ∷ [])) (text_of o ++ printed m text) d) (sym e) (next_line l text d x.plays y.obeys)
 
   -- one more line
   pub standing_next : (a b d : State P) (all before left : List (List ℕ)) (l : List ℕ) (n k number : ℕ) (text : List ℕ) (o p : Output) (u : Unit {0})
-      → before ≡ l ∷ left → k ≡ n + 1 → number ≡ n + 1 → Standing a all before n o b → Obeyed facts after strict l b text d
+      → before ≡ l ∷ left → k ≡ n + 1 → number ≡ n + 1 → Standing a all before n o b → Obeyed stated l b text d
       → Adds (printed number text) o (Ok u) p → p.used ≤ o.used + longest_line → Standing a all left k p d
   standing_next a b d all before left l n k number text o p u q e e' x y h w =
       let z = subst (λ (z : List (List ℕ)). Standing a all z n o b) q x in
       let whole : text_of p ≡ text_of o ++ printed k text = h.1 ∙ ap (λ (m : ℕ). text_of o ++ printed m text) (e' ∙ sym e) in record {
         done = z.done ++ (l ∷ []);
         split = z.split ∙ sym (append_assoc z.done (l ∷ []) left);
-        plays = subst (λ (t : List ℕ). Plays facts after strict a k (z.done ++ (l ∷ [])) t d) (sym whole) (grown a b d all left l n k o text e z y);
+        plays = subst (λ (t : List ℕ). Plays stated a k (z.done ++ (l ∷ [])) t d) (sym whole) (grown a b d all left l n k o text e z y);
         sound = y.sound;
         counted = (let f = length-append z.done (l ∷ []) in omega (arith, f, e, z.counted));
         short = omega (arith, w, e, z.short);
       }
 
   -- the first line finds no room
-  pub first_too_long : (p : P) (a : State P) (all : List (List ℕ)) (room : ℕ) → New facts a → AbortedBelow facts after tasks p a.policy
-      → room < length (printed 1 granted_text) → TooLong (Over facts after strict p) all room
+  pub first_too_long : (p : P) (a : State P) (all : List (List ℕ)) (room : ℕ) → New stated.facts a → AbortedBelow stated tasks p a.policy
+      → room < length (printed 1 granted_text) → TooLong (Over stated p) all room
   first_too_long p a all room new aborted h = record {
     done = [];
     rest = all;
@@ -93,8 +92,8 @@ module _ {P : Type 0} (facts : P → Facts) (after : P → Move → P → Type 0
   -- one more line finds no room
   pub next_too_long : (p : P) (a b d : State P) (all before left : List (List ℕ)) (l : List ℕ) (n k : ℕ) (text : List ℕ) (o : Output)
       (ls : List (List ℕ)) (room : ℕ) → ls ≡ all → room ≡ size_of o
-      → New facts a → AbortedBelow facts after tasks p a.policy → before ≡ l ∷ left → k ≡ n + 1 → Standing a all before n o b
-      → Obeyed facts after strict l b text d → o.used ≤ size_of o → size_of o < o.used + length (printed k text) → TooLong (Over facts after strict p) ls room
+      → New stated.facts a → AbortedBelow stated tasks p a.policy → before ≡ l ∷ left → k ≡ n + 1 → Standing a all before n o b
+      → Obeyed stated l b text d → o.used ≤ size_of o → size_of o < o.used + length (printed k text) → TooLong (Over stated p) ls room
   next_too_long p a b d all before left l n k text o ls room same wide new aborted q e x y u h =
       let z = subst (λ (z : List (List ℕ)). Standing a all z n o b) q x in record {
         done = z.done ++ (l ∷ []);
@@ -106,8 +105,8 @@ module _ {P : Type 0} (facts : P → Facts) (after : P → Move → P → Type 0
       }
 
   -- all lines were run
-  pub all_played : (p : P) (a b : State P) (all left : List (List ℕ)) (n : ℕ) (o : Output) (ls : List (List ℕ)) → ls ≡ all → New facts a
-      → AbortedBelow facts after tasks p a.policy → left ≡ [] → Standing a all left n o b → Over facts after strict p ls (text_of o)
+  pub all_played : (p : P) (a b : State P) (all left : List (List ℕ)) (n : ℕ) (o : Output) (ls : List (List ℕ)) → ls ≡ all → New stated.facts a
+      → AbortedBelow stated tasks p a.policy → left ≡ [] → Standing a all left n o b → Over stated p ls (text_of o)
   all_played p a b all left n o ls same new aborted e x = record {
     made = a;
     new = new;
@@ -115,7 +114,7 @@ module _ {P : Type 0} (facts : P → Facts) (after : P → Move → P → Type 0
     lines = n;
     reached = b;
     plays = (let y : ls ≡ x.done = same ∙ x.split ∙ ap (λ (z : List (List ℕ)). x.done ++ z) e ∙ append-nil x.done in
-        subst (λ (z : List (List ℕ)). Plays facts after strict a n z (text_of o) b) (sym y) x.plays);
+        subst (λ (z : List (List ℕ)). Plays stated a n z (text_of o) b) (sym y) x.plays);
   }
 
   -- the lines that were run and those that are left are all lines

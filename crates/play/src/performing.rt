@@ -11,7 +11,7 @@ use table::table::Table;
 
 // Makes the call that the command is.
 pub fn perform<P: Policy>(table: &mut Table<P>, command: Command) -> Result<Outcome, TableFault>
-    ensures { Performs P.Policy.facts P.Policy.after P.Policy.STRICT (call_of command) table.old (outcome_or result) table.new }
+    ensures { Performs P.Policy (call_of command) table.old (outcome_or result) table.new }
 {
     match command {
         Command::Begin { task } => table.begin(task).map(Outcome::from),

@@ -18,7 +18,7 @@ use table::table::Table;
 
 // Does what a line says, if it is a command.
 fn obey<P: Policy>(table: &mut Table<P>, line: Line) -> Reply
-    ensures { Sound P.Policy.facts (view table.old) → Obeyed P.Policy.facts P.Policy.after P.Policy.STRICT line.entry.bytes.now (view table.old) (reply_text result) (view table.new) }
+    ensures { Sound P.Policy.facts (view table.old) → Obeyed P.Policy line.entry.bytes.now (view table.old) (reply_text result) (view table.new) }
 {
     let command = line.command()?;
     let outcome = perform(table, command).map_err(|fault| RefusedLine {
@@ -37,7 +37,7 @@ pub(crate) fn run_over<P: Policy + Drop>(
     requires some { 0 < length (lines_of text.now) }
     requires empty { output.old.used ≡ 0 }
     ensures same_buffer { SameBuffer output.old output.new }
-    ensures fronts { Fronts (Over P.Policy.facts P.Policy.after P.Policy.STRICT policy) (drop 1 (lines_of text.now)) output.old result output.new }
+    ensures fronts { Fronts (Over P.Policy policy) (drop 1 (lines_of text.now)) output.old result output.new }
     ensures within { Within (longest_line * length (lines_of text.now)) output.old result output.new }
 {
     let mut table = Table::new(policy);

@@ -10,6 +10,6 @@ invariant-loop-line g l = record {
   can : (goal.iterator-loop-line g).can_next l.line-iterator;
   finite : (goal.iterator-loop-line g).is_finite l.line-iterator;
   same : SameBuffer l.fn.output l.output;
-  standing : Standing g.P.Policy.facts g.P.Policy.after g.P.Policy.STRICT (view l.initial.table) (lines_left l.initial.line-iterator.rest)
+  standing : Standing g.P.Policy (view l.initial.table) (lines_left l.initial.line-iterator.rest)
       (lines_left l.line-iterator.rest) l.line-iterator.count l.output (view l.table);
 }
