@@ -1,6 +1,7 @@
 mod Digits
 mod Lengths
 mod Obeying
+mod Skipping
 mod Standing
 mod FirstLine
 mod Filling

@@ -14,24 +14,6 @@ use Rattle.play.specs.Room.{text_of, size_of, Adds, TooLong}
 use Rattle.play.specs.Printed.{granted_text, printed, longest_line}
 use Rattle.play.specs.Playing.{Obeyed, Plays, first_line, next_line, Over}
 
--- the first line was handed out, and what is left are the lines after it
-pub first_handed : (n m : ℕ) (before left : List (List ℕ)) (r : Option Line) → 0 < length before → n ≡ 0 → HandsOut n before r m left
-    → (drop 1 before ≡ left) × (m ≡ 1) × (length before ≡ length left + 1)
-first_handed n m before left None h e x = absurd (let z = ap length x.0 in omega (arith, h, z))
-first_handed n m before left (Some line) h e x =
-    (ap (drop 1) x.0, omega (arith, e, x.2), let z = ap length x.0 in omega (arith, z))
-
--- the same of the reader that then goes on
-pub started : (text : List ℕ) (n : ℕ) (before : List (List ℕ)) (r : Option Line) (next it : Lines) → (before ≡ lines text) × (n ≡ 0) → it ≡ next
-    → 0 < length (lines text) → HandsOut n before r next.count (lines_left next.rest)
-    → (drop 1 (lines text) ≡ lines_left it.rest) × (it.count ≡ 1) × (length (lines text) ≡ length (lines_left it.rest) + 1)
-started text n before r next it all e h x =
-    let l = ap length all.0 in
-    let f = first_handed n next.count before (lines_left next.rest) r (omega (arith, l, h)) all.1 x in
-    let left : lines_left it.rest ≡ lines_left next.rest = ap (λ (z : Lines). lines_left z.rest) e in
-    let k = ap length left in
-    (ap (drop 1) (sym all.0) ∙ f.0 ∙ sym left, ap (λ (z : Lines). z.count) e ∙ f.1, omega (arith, l, k, f.2))
-
 module _ {P : Type 0} (stated : Ghosts P) where
   -- of the lines `all` after the first, all but `left` were run, from the table a to b, and n lines have printed the text in o
   pub record Standing (a : State P) (all left : List (List ℕ)) (n : ℕ) (o : Output) (b : State P) : Type 0 where
@@ -43,12 +25,12 @@ module _ {P : Type 0} (stated : Ghosts P) where
     pub short : o.used ≤ longest_line * n
 
   -- after the first line
-  pub standing_first : (a : State P) (all : List (List ℕ)) (n : ℕ) (o p : Output) (u : Unit {0}) → n ≡ 1 → Sound stated.facts a → o.used ≡ 0
-      → Adds (printed 1 granted_text) o (Ok u) p → p.used ≤ o.used + longest_line → Standing a all all n p a
-  standing_first a all n o p u e h z x w =
+  pub standing_first : (a : State P) (all left : List (List ℕ)) (n : ℕ) (o p : Output) (u : Unit {0}) → all ≡ left → n ≡ 1 → Sound stated.facts a → o.used ≡ 0
+      → Adds (printed 1 granted_text) o (Ok u) p → p.used ≤ o.used + longest_line → Standing a all left n p a
+  standing_first a all left n o p u q e h z x w =
       let whole : text_of p ≡ printed 1 granted_text = x.1 ∙ ap (λ (m : ℕ). take m o.room.now ++ printed 1 granted_text) z in record {
         done = [];
-        split = refl;
+        split = q;
         plays = subst (λ (k : ℕ). Plays stated a k [] (text_of p) a) (sym e)
             (subst (λ (t : List ℕ). Plays stated a 1 [] t a) (sym whole) first_line);
         sound = h;
@@ -90,30 +72,29 @@ module _ {P : Type 0} (stated : Ghosts P) where
   }
 
   -- one more line finds no room
-  pub next_too_long : (p : P) (a b d : State P) (all before left : List (List ℕ)) (l : List ℕ) (n k : ℕ) (text : List ℕ) (o : Output)
-      (ls : List (List ℕ)) (room : ℕ) → ls ≡ all → room ≡ size_of o
+  pub next_too_long : (p : P) (a b d : State P) (all before left : List (List ℕ)) (l : List ℕ) (n k : ℕ) (text : List ℕ) (o : Output) (room : ℕ) → room ≡ size_of o
       → New stated.facts a → AbortedBelow stated tasks p a.policy → before ≡ l ∷ left → k ≡ n + 1 → Standing a all before n o b
-      → Obeyed stated l b text d → o.used ≤ size_of o → size_of o < o.used + length (printed k text) → TooLong (Over stated p) ls room
-  next_too_long p a b d all before left l n k text o ls room same wide new aborted q e x y u h =
+      → Obeyed stated l b text d → o.used ≤ size_of o → size_of o < o.used + length (printed k text) → TooLong (Over stated p) all room
+  next_too_long p a b d all before left l n k text o room wide new aborted q e x y u h =
       let z = subst (λ (z : List (List ℕ)). Standing a all z n o b) q x in record {
         done = z.done ++ (l ∷ []);
         rest = left;
         out = text_of o ++ printed k text;
-        split = same ∙ z.split ∙ sym (append_assoc z.done (l ∷ []) left);
+        split = z.split ∙ sym (append_assoc z.done (l ∷ []) left);
         says = record { made = a; new = new; aborted = aborted; lines = k; reached = d; plays = grown a b d all left l n k o text e z y };
         longer = (let f = length-append (text_of o) (printed k text) in let t = length-take o.used o.room.now in omega (arith, f, t, u, h, wide));
       }
 
   -- all lines were run
-  pub all_played : (p : P) (a b : State P) (all left : List (List ℕ)) (n : ℕ) (o : Output) (ls : List (List ℕ)) → ls ≡ all → New stated.facts a
-      → AbortedBelow stated tasks p a.policy → left ≡ [] → Standing a all left n o b → Over stated p ls (text_of o)
-  all_played p a b all left n o ls same new aborted e x = record {
+  pub all_played : (p : P) (a b : State P) (all left : List (List ℕ)) (n : ℕ) (o : Output) → New stated.facts a
+      → AbortedBelow stated tasks p a.policy → left ≡ [] → Standing a all left n o b → Over stated p all (text_of o)
+  all_played p a b all left n o new aborted e x = record {
     made = a;
     new = new;
     aborted = aborted;
     lines = n;
     reached = b;
-    plays = (let y : ls ≡ x.done = same ∙ x.split ∙ ap (λ (z : List (List ℕ)). x.done ++ z) e ∙ append-nil x.done in
+    plays = (let y : all ≡ x.done = x.split ∙ ap (λ (z : List (List ℕ)). x.done ++ z) e ∙ append-nil x.done in
         subst (λ (z : List (List ℕ)). Plays stated a n z (text_of o) b) (sym y) x.plays);
   }
 

@@ -42,9 +42,7 @@ pub(crate) fn run_over<P: Policy + Drop>(
 {
     let mut table = Table::new(policy);
     output.put_line(1, Ok(Outcome::Done))?;
-    let mut lines = Lines::new(text);
-    let _ = lines.next();
-    for line in lines {
+    for line in Lines::new(text).skip(1) {
         let reply = obey(&mut table, line);
         output.put_line(line.number, reply)?;
     }

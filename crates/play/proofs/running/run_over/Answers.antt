@@ -1,10 +1,12 @@
-use Rattle.std.proofs.Common.{[], drop, sym, ◌∙◌, arith, rules}
+use Rattle.std.proofs.Common.{[], length, drop, sym, ap, ◌∙◌, arith, rules}
 use Rattle.history.specs.Runs.{none_yet}
-use Rattle.schedule.specs.Pieces.{lines, lines_left}
+use Rattle.std.specs.Iterator.Adapters.{skip_source, skip_count}
+use Rattle.schedule.specs.Pieces.{lines}
 use Rattle.table.specs.Views.{view}
 use Rattle.play.specs.Printed.{reply_text}
 use Rattle.play.specs.Room.{size_of}
-use Rattle.play.proofs.Standing.{standing_first, standing_next, first_too_long, next_too_long, all_played, started}
+use Rattle.play.proofs.Skipping.{to_come, behind, next_line_out, none_out, first_behind}
+use Rattle.play.proofs.Standing.{standing_first, standing_next, first_too_long, next_too_long, all_played, lines_counted}
 use Rattle.play.proofs.running.run_over.Goals as goal
 
 pub returns-in_err-put_line-clause-fronts : goal.returns-in_err-put_line-clause-fronts
@@ -16,54 +18,66 @@ returns-in_err-put_line-clause-fronts g c =
 
 pub loop-line-init : goal.loop-line-init
 loop-line-init g c =
-    let h = started c.args.text.now c.new-lines.result.count (lines_left c.new-lines.result.rest) c.next.result c.next.new.self
-    c.into_iter-line-iterator.result c.new-lines.ensures.all c.into_iter-line-iterator.ensures.into_iter_gives c.requires.some c.next.ensures.steps in
+    let same = c.into_iter-line-iterator.ensures.into_iter_gives in
+    let h = first_behind c.args.text.now c.new.result c.into_iter-line-iterator.result c.new.ensures.all
+    (ap skip_source same ∙ c.skip-line-items.ensures.source) (ap skip_count same ∙ c.skip-line-items.ensures.count) in
     let n = c.new-table.ensures in
     let p = c.in_ok-put_line.ensures in record {
       can = tt;
       finite = tt;
       same = p.same_buffer;
-      standing = standing_first g.P.Policy (view c.new-table.result)
-          (lines_left c.into_iter-line-iterator.result.rest) c.into_iter-line-iterator.result.count c.args.output.now c.put_line.new.self _
-          h.1 (n.law (view c.new-table.result) [] none_yet).sound c.requires.empty p.added p.within;
+      standing = standing_first g.P.Policy (view c.new-table.result) (drop 1 (lines c.args.text.now)) (to_come c.into_iter-line-iterator.result)
+          (behind c.into_iter-line-iterator.result) c.args.output.now c.put_line.new.self _
+          h.0 h.1 (n.law (view c.new-table.result) [] none_yet).sound c.requires.empty p.added p.within;
     }
 
 pub returns-in_err-put_line-2-clause-fronts : goal.returns-in_err-put_line-2-clause-fronts
 returns-in_err-put_line-2-clause-fronts g c =
-    let h = started c.args.text.now c.new-lines.result.count (lines_left c.new-lines.result.rest) c.next.result c.next.new.self
-    c.into_iter-line-iterator.result c.new-lines.ensures.all c.into_iter-line-iterator.ensures.into_iter_gives c.requires.some c.next.ensures.steps in
     let n = c.new-table.ensures in
     let i = c.loop-line.invariant in
-    let s = c.in-Some.ensures.steps in
+    let s = next_line_out c.loop-line.line-iterator c.next.new.self c.in-Some.line c.in-Some.ensures.steps in
     let e = c.in_err-put_line-2.ensures in
     let o = c.obey-reply.ensures i.standing.sound in
     let t = next_too_long g.P.Policy c.args.policy (view c.new-table.result) (view c.loop-line.table)
-    (view c.obey-reply.new.table) (lines_left c.into_iter-line-iterator.result.rest) (lines_left c.loop-line.line-iterator.rest)
-    (lines_left c.next-in-loop-line.new.self.rest) c.in-Some.line.bytes.now c.loop-line.line-iterator.count c.in-Some.line.number
-    (reply_text c.obey-reply.result) c.loop-line.output (drop 1 (lines c.args.text.now)) (size_of c.args.output.now) h.0 (sym i.same.1)
+    (view c.obey-reply.new.table) (drop 1 (lines c.args.text.now)) (to_come c.loop-line.line-iterator)
+    (to_come c.next.new.self) c.in-Some.line.bytes.now (behind c.loop-line.line-iterator) c.in-Some.line.number
+    (reply_text c.obey-reply.result) c.loop-line.output (size_of c.args.output.now) (sym i.same.1)
     n.new n.aborted s.0 s.1 i.standing o c.loop-line.output.fits e.added in search rules
+
+pub returns-in_err-put_line-2-clause-within : goal.returns-in_err-put_line-2-clause-within
+returns-in_err-put_line-2-clause-within g c =
+    let i = c.loop-line.invariant in
+    let s = next_line_out c.loop-line.line-iterator c.next.new.self c.in-Some.line c.in-Some.ensures.steps in
+    let m = lines_counted g.P.Policy (view c.new-table.result) (view c.loop-line.table) (drop 1 (lines c.args.text.now)) (to_come c.loop-line.line-iterator) (behind c.loop-line.line-iterator) c.loop-line.output i.standing in
+    let z = ap length s.0 in
+    let w = c.in_err-put_line-2.ensures.within in search rules
 
 pub loop-line-preserved : goal.loop-line-preserved
 loop-line-preserved g c =
     let i = c.loop-line.invariant in
-    let s = c.in-Some.ensures.steps in
+    let s = next_line_out c.loop-line.line-iterator c.next.new.self c.in-Some.line c.in-Some.ensures.steps in
     let p = c.in_ok-put_line-2.ensures in
     let o = c.obey-reply.ensures i.standing.sound in record {
       can = tt;
       finite = tt;
       same = (p.same_buffer.0 ∙ i.same.0, p.same_buffer.1 ∙ i.same.1);
       standing = standing_next g.P.Policy (view c.new-table.result) (view c.loop-line.table)
-          (view c.obey-reply.new.table) (lines_left c.into_iter-line-iterator.result.rest) (lines_left c.loop-line.line-iterator.rest)
-          (lines_left c.next-in-loop-line.new.self.rest) c.in-Some.line.bytes.now c.loop-line.line-iterator.count
-          c.next-in-loop-line.new.self.count c.in-Some.line.number (reply_text c.obey-reply.result) c.loop-line.output
+          (view c.obey-reply.new.table) (drop 1 (lines c.args.text.now)) (to_come c.loop-line.line-iterator)
+          (to_come c.next.new.self) c.in-Some.line.bytes.now (behind c.loop-line.line-iterator)
+          (behind c.next.new.self) c.in-Some.line.number (reply_text c.obey-reply.result) c.loop-line.output
           c.put_line-in-loop-line.new.self _ s.0 s.2 s.1 i.standing o p.added p.within;
     }
 
 pub returns-clause-fronts : goal.returns-clause-fronts
 returns-clause-fronts g c =
-    let h = started c.args.text.now c.new-lines.result.count (lines_left c.new-lines.result.rest) c.next.result c.next.new.self
-    c.into_iter-line-iterator.result c.new-lines.ensures.all c.into_iter-line-iterator.ensures.into_iter_gives c.requires.some c.next.ensures.steps in
     let n = c.new-table.ensures in
+    let z = none_out c.loop-line.line-iterator c.next.new.self c.in-None.ensures.steps in
     all_played g.P.Policy c.args.policy (view c.new-table.result) (view c.loop-line.table)
-    (lines_left c.into_iter-line-iterator.result.rest) (lines_left c.loop-line.line-iterator.rest) c.loop-line.line-iterator.count
-    c.loop-line.output (drop 1 (lines c.args.text.now)) h.0 n.new n.aborted c.in-None.ensures.steps.0 c.loop-line.invariant.standing
+    (drop 1 (lines c.args.text.now)) (to_come c.loop-line.line-iterator) (behind c.loop-line.line-iterator)
+    c.loop-line.output n.new n.aborted z c.loop-line.invariant.standing
+
+pub returns-clause-within : goal.returns-clause-within
+returns-clause-within g c =
+    let i = c.loop-line.invariant in
+    let m = lines_counted g.P.Policy (view c.new-table.result) (view c.loop-line.table) (drop 1 (lines c.args.text.now)) (to_come c.loop-line.line-iterator) (behind c.loop-line.line-iterator) c.loop-line.output i.standing in
+    let f = i.standing.short in search rules

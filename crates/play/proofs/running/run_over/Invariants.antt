@@ -1,7 +1,9 @@
 -- The text in the output is that of the lines so far.
-use Rattle.schedule.specs.Pieces.{lines_left}
+use Rattle.std.proofs.Common.{drop}
+use Rattle.schedule.specs.Pieces.{lines}
 use Rattle.table.specs.Views.{view}
 use Rattle.play.specs.Room.{SameBuffer}
+use Rattle.play.proofs.Skipping.{to_come, behind}
 use Rattle.play.proofs.Standing.{Standing}
 use Rattle.play.proofs.running.run_over.Given as goal
 
@@ -10,6 +12,5 @@ invariant-loop-line g l = record {
   can : (goal.iterator-loop-line g).can_next l.line-iterator;
   finite : (goal.iterator-loop-line g).is_finite l.line-iterator;
   same : SameBuffer l.fn.output l.output;
-  standing : Standing g.P.Policy (view l.initial.table) (lines_left l.initial.line-iterator.rest)
-      (lines_left l.line-iterator.rest) l.line-iterator.count l.output (view l.table);
+  standing : Standing g.P.Policy (view l.initial.table) (drop 1 (lines l.text)) (to_come l.line-iterator) (behind l.line-iterator) l.output (view l.table);
 }
