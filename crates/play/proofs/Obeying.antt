@@ -49,23 +49,23 @@ module _ {P : Type 0} (stated : Ghosts P) where
   refused_obeys l c a b none e m = absurd m
   refused_obeys l c a b (some why) e m = performed c _ b e m
 
-  pub granted_line : (l : List ℕ) (n : ℕ) (c : Command) (a b : State P) (x : Outcome) → Ok c ≡ command_at n (parsed l)
+  pub granted_line : {l : List ℕ} (n : ℕ) {c : Command} {a b : State P} (x : Outcome) → Ok c ≡ command_at n (parsed l)
       → Stepped stated (call_of c) a (outcome_or (Ok x)) b → Obeyed stated l a (reply_text (Ok x)) b
-  granted_line l n c a b Done e s = record { obeys = performed c _ b (command_parsed n (parsed l) c e) s.makes; sound = s.sound }
-  granted_line l n c a b (Value x) e s = record { obeys = performed c _ b (command_parsed n (parsed l) c e) s.makes; sound = s.sound }
+  granted_line {l} n {c} {a} {b} Done e s = record { obeys = performed c _ b (command_parsed n (parsed l) c e) s.makes; sound = s.sound }
+  granted_line {l} n {c} {a} {b} (Value x) e s = record { obeys = performed c _ b (command_parsed n (parsed l) c e) s.makes; sound = s.sound }
 
-  pub refused_line : (l : List ℕ) (n : ℕ) (c : Command) (a b : State P) (why : TableFault) (f : TextFault TableFault) → f ≡ Refused n why
+  pub refused_line : {l : List ℕ} {n : ℕ} {c : Command} {a b : State P} {why : TableFault} {f : TextFault TableFault} → f ≡ Refused n why
       → Ok c ≡ command_at n (parsed l) → Stepped stated (call_of c) a (outcome_or (Err why)) b
       → Obeyed stated l a (reply_text (Err f)) b
-  refused_line l n c a b why f q e s =
+  refused_line {l} {n} {c} {a} {b} {why} {f} q e s =
       subst (λ (x : TextFault TableFault). Obeyed stated l a (reply_text (Err x)) b) (sym q) record {
         obeys = refused_obeys l c a b (refusal_of why) (command_parsed n (parsed l) c e) s.makes;
         sound = s.sound;
       }
 
-  pub bad_line : (l : List ℕ) (n : ℕ) (a : State P) (bad : BadLine) (f : TextFault TableFault) (r : Result Outcome (TextFault TableFault)) → r ≡ Err f
+  pub bad_line : {l : List ℕ} (n : ℕ) {a : State P} (bad : BadLine) {f : TextFault TableFault} {r : Result Outcome (TextFault TableFault)} → r ≡ Err f
       → f ≡ Misshapen bad.line bad.misfit → Err bad ≡ command_at n (parsed l) → Sound stated.facts a → Obeyed stated l a (reply_text r) a
-  bad_line l n a bad f r p q e s =
+  bad_line {l} n {a} bad {f} {r} p q e s =
       let w = no_command_parsed n (parsed l) bad e in
       let h : r ≡ Err (Misshapen bad.line bad.misfit) = cc in
       subst (λ (x : Result Outcome (TextFault TableFault)). Obeyed stated l a (reply_text x) a)

@@ -1,6 +1,6 @@
 -- A reader of lines, behind its first ones.
-use Rattle.std.proofs.Common.{◌≡◌, ℕ, ◌+◌, ◌-◌, ◌≤◌, List, [], ◌∷◌, length, drop, Some, None, Option, sym, ap, ◌∙◌, arith, length-drop}
-use Rattle.std.specs.Iterator.{Yields, SkipsThenYields}
+use Rattle.std.proofs.Common.{◌≡◌, ℕ, ◌+◌, List, [], ◌∷◌, length, drop, Some, None, Option, sym, ap, ◌∙◌, arith, length-drop}
+use Rattle.std.specs.Iterator.{Yields}
 use Rattle.std.specs.Iterator.Adapters.{skip_source, skip_count, skip_steps}
 use Rattle.std.specs.declared.iter.Skip.{Skip}
 use Rattle.std.proofs.lemmas.List.{drop_all}

@@ -1,9 +1,5 @@
 -- A text of which some lines have been run.
-use Rattle.std.proofs.Common.{◌≡◌, ℕ, ◌+◌, ◌*◌, ◌<◌, ◌≤◌, List, [], ◌∷◌, ◌++◌, length, take, drop, Some, None, Ok, Option, sym, refl, ap, ◌∙◌, subst, append_assoc, append-nil, arith, length-append, length-take}
-use Rattle.schedule.specs.Lines.{HandsOut}
-use Rattle.schedule.specs.Pieces.{lines, lines_left}
-use Rattle.schedule.specs.declared.lines.Line.{Line}
-use Rattle.schedule.specs.declared.lines.Lines.{Lines}
+use Rattle.std.proofs.Common.{◌≡◌, ℕ, ◌+◌, ◌*◌, ◌<◌, ◌≤◌, List, [], ◌∷◌, ◌++◌, length, take, Ok, sym, refl, ap, ◌∙◌, subst, append_assoc, append-nil, arith, length-append, length-take}
 use Rattle.policy.specs.Limits.{tasks}
 use Rattle.policy.specs.declared.Policy.{Ghosts}
 use Rattle.history.specs.Steps.{State}
@@ -25,9 +21,9 @@ module _ {P : Type 0} (stated : Ghosts P) where
     pub short : o.used ≤ longest_line * n
 
   -- after the first line
-  pub standing_first : (a : State P) (all left : List (List ℕ)) (n : ℕ) (o p : Output) (u : Unit {0}) → all ≡ left → n ≡ 1 → Sound stated.facts a → o.used ≡ 0
-      → Adds (printed 1 granted_text) o (Ok u) p → p.used ≤ o.used + longest_line → Standing a all left n p a
-  standing_first a all left n o p u q e h z x w =
+  pub standing_first : {a : State P} {all left : List (List ℕ)} {n : ℕ} (o p : Output) → all ≡ left → n ≡ 1 → Sound stated.facts a → o.used ≡ 0
+      → Adds (printed 1 granted_text) o (Ok tt) p → p.used ≤ o.used + longest_line → Standing a all left n p a
+  standing_first {a} {all} {left} {n} o p q e h z x w =
       let whole : text_of p ≡ printed 1 granted_text = x.1 ∙ ap (λ (m : ℕ). take m o.room.now ++ printed 1 granted_text) z in record {
         done = [];
         split = q;
@@ -45,10 +41,10 @@ module _ {P : Type 0} (stated : Ghosts P) where
       subst (λ (m : ℕ). Plays stated a m (x.done ++ (l ∷ [])) (text_of o ++ printed m text) d) (sym e) (next_line l text d x.plays y.obeys)
 
   -- one more line
-  pub standing_next : (a b d : State P) (all before left : List (List ℕ)) (l : List ℕ) (n k number : ℕ) (text : List ℕ) (o p : Output) (u : Unit {0})
+  pub standing_next : {a b d : State P} {all before left : List (List ℕ)} {l : List ℕ} {n k number : ℕ} {text : List ℕ} {o : Output} (p : Output)
       → before ≡ l ∷ left → k ≡ n + 1 → number ≡ n + 1 → Standing a all before n o b → Obeyed stated l b text d
-      → Adds (printed number text) o (Ok u) p → p.used ≤ o.used + longest_line → Standing a all left k p d
-  standing_next a b d all before left l n k number text o p u q e e' x y h w =
+      → Adds (printed number text) o (Ok tt) p → p.used ≤ o.used + longest_line → Standing a all left k p d
+  standing_next {a} {b} {d} {all} {before} {left} {l} {n} {k} {number} {text} {o} p q e e' x y h w =
       let z = subst (λ (z : List (List ℕ)). Standing a all z n o b) q x in
       let whole : text_of p ≡ text_of o ++ printed k text = h.1 ∙ ap (λ (m : ℕ). text_of o ++ printed m text) (e' ∙ sym e) in record {
         done = z.done ++ (l ∷ []);
@@ -72,10 +68,10 @@ module _ {P : Type 0} (stated : Ghosts P) where
   }
 
   -- one more line finds no room
-  pub next_too_long : (p : P) (a b d : State P) (all before left : List (List ℕ)) (l : List ℕ) (n k : ℕ) (text : List ℕ) (o : Output) (room : ℕ) → room ≡ size_of o
+  pub next_too_long : (p : P) {a b d : State P} {all before left : List (List ℕ)} {l : List ℕ} {n k : ℕ} {text : List ℕ} {o : Output} {room : ℕ} → room ≡ size_of o
       → New stated.facts a → AbortedBelow stated tasks p a.policy → before ≡ l ∷ left → k ≡ n + 1 → Standing a all before n o b
       → Obeyed stated l b text d → o.used ≤ size_of o → size_of o < o.used + length (printed k text) → TooLong (Over stated p) all room
-  next_too_long p a b d all before left l n k text o room wide new aborted q e x y u h =
+  next_too_long p {a} {b} {d} {all} {before} {left} {l} {n} {k} {text} {o} {room} wide new aborted q e x y u h =
       let z = subst (λ (z : List (List ℕ)). Standing a all z n o b) q x in record {
         done = z.done ++ (l ∷ []);
         rest = left;
@@ -86,9 +82,9 @@ module _ {P : Type 0} (stated : Ghosts P) where
       }
 
   -- all lines were run
-  pub all_played : (p : P) (a b : State P) (all left : List (List ℕ)) (n : ℕ) (o : Output) → New stated.facts a
+  pub all_played : (p : P) {a b : State P} {all left : List (List ℕ)} {n : ℕ} {o : Output} → New stated.facts a
       → AbortedBelow stated tasks p a.policy → left ≡ [] → Standing a all left n o b → Over stated p all (text_of o)
-  all_played p a b all left n o new aborted e x = record {
+  all_played p {a} {b} {all} {left} {n} {o} new aborted e x = record {
     made = a;
     new = new;
     aborted = aborted;
@@ -99,5 +95,5 @@ module _ {P : Type 0} (stated : Ghosts P) where
   }
 
   -- the lines that were run and those that are left are all lines
-  pub lines_counted : (a b : State P) (all left : List (List ℕ)) (n : ℕ) (o : Output) → Standing a all left n o b → n + length left ≡ length all + 1
-  lines_counted a b all left n o x = let h = ap length x.split in let l = length-append x.done left in omega (arith, h, l, x.counted)
+  pub lines_counted : {a b : State P} {all left : List (List ℕ)} {n : ℕ} {o : Output} → Standing a all left n o b → n + length left ≡ length all + 1
+  lines_counted {a} {b} {all} {left} {n} {o} x = let h = ap length x.split in let l = length-append x.done left in omega (arith, h, l, x.counted)
