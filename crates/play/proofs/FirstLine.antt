@@ -1,5 +1,5 @@
 -- From the first line of a text to what is printed of all its lines.
-use Rattle.std.proofs.Common.{◌≡◌, ℕ, ◌+◌, ◌*◌, ◌<◌, ◌≤◌, Bool, true, false, cond, eqb, ltb, List, [], ◌∷◌, ◌++◌, length, take, Ok, Err, Result, refl, ap, ◌∙◌, subst, arith, ltb-false}
+use Rattle.std.proofs.Common.{decimal, length-append, ◌≡◌, ℕ, ◌+◌, ◌*◌, ◌<◌, ◌≤◌, Bool, true, false, cond, eqb, ltb, List, [], ◌∷◌, ◌++◌, length, Ok, Err, Result, refl, ap, subst, arith, ltb-false}
 use Rattle.schedule.specs.Pieces.{line_feed, longer, lines}
 use Rattle.schedule.specs.Texts.{longest_text, named_by, header_of}
 use Rattle.schedule.specs.Faults.{fault_line, fault_number}
@@ -11,7 +11,7 @@ use Rattle.table.specs.Faults.{numbered}
 use Rattle.table.specs.declared.fault.TableFault.{TableFault}
 use Rattle.play.specs.declared.outcome.NoRoom.{NoRoom}
 use Rattle.play.specs.declared.room.Output.{Output}
-use Rattle.play.specs.Room.{text_of, Adds, Fronts}
+use Rattle.play.specs.Room.{Adds, Fronts}
 use Rattle.play.specs.Printed.{printed, refused_text, longest_line}
 use Rattle.play.specs.Playing.{Over}
 use Rattle.play.specs.Output.{From, Runs, Says, most_printed}
@@ -44,15 +44,19 @@ pub fronts_chosen : (h : Result Choice (TextFault TableFault)) (c : Choice) (ls 
     → Fronts (Runs c) ls o r p → Fronts (Says h) ls o r p
 fronts_chosen h c ls o p r e = subst (λ (x : Result Choice (TextFault TableFault)). Fronts (Says x) ls o r p) e
 
+printed_some : (n : ℕ) (text : List ℕ) → 0 < length (printed n text)
+printed_some n text =
+    let l = length-append (decimal n) (text ++ (line_feed ∷ [])) in
+    let m = length-append text (line_feed ∷ []) in omega (arith, l, m)
+
 -- a text without a policy prints one line
 pub fronts_fault : (h : Result Choice (TextFault TableFault)) (f : TextFault TableFault) (n : ℕ) (ls : List (List ℕ)) (o p : Output)
-    (r : Result (Unit {0}) NoRoom) → o.used ≡ 0 → Err f ≡ h → n ≡ fault_line f → Adds (printed n (refused_text (fault_number numbered f))) o r p
+    (r : Result (Unit {0}) NoRoom) → Err f ≡ h → n ≡ fault_line f → Adds (printed n (refused_text (fault_number numbered f))) o r p
     → Fronts (Says h) ls o r p
-fronts_fault h f n ls o p (Ok done) z e q x =
+fronts_fault h f n ls o p (Ok done) e q x =
     subst (λ (y : Result Choice (TextFault TableFault)). Fronts (Says y) ls o (Ok done) p) e
-    (x.1 ∙ ap (λ (m : ℕ). take m o.room.now ++ printed n (refused_text (fault_number numbered f))) z
-    ∙ ap (λ (m : ℕ). printed m (refused_text (fault_number numbered f))) q)
-fronts_fault h f n ls o p (Err why) z e q x =
+    (printed n (refused_text (fault_number numbered f)), ap (λ (m : ℕ). printed m (refused_text (fault_number numbered f))) q, x)
+fronts_fault h f n ls o p (Err why) e q x =
     subst (λ (y : Result Choice (TextFault TableFault)). Fronts (Says y) ls o (Err why) p) e
     (record {
       done = [];
@@ -60,7 +64,7 @@ fronts_fault h f n ls o p (Err why) z e q x =
       out = printed n (refused_text (fault_number numbered f));
       split = refl;
       says = ap (λ (m : ℕ). printed m (refused_text (fault_number numbered f))) q;
-      longer = omega (arith, x, z);
+      longer = (let l = printed_some n (refused_text (fault_number numbered f)) in omega (arith, x, l));
     })
 
 pub lines_within : (s : List ℕ) → length s ≤ longest_text → longest_line * length (lines s) ≤ most_printed s
@@ -72,7 +76,7 @@ line_enough s = omega arith
 -- what holds of one account of the lines holds of another that follows from it
 pub fronts_so : (S T : List (List ℕ) → List ℕ → Type 0) (ls : List (List ℕ)) (o p : Output) (r : Result (Unit {0}) NoRoom)
     → ((done : List (List ℕ)) (out : List ℕ) → S done out → T done out) → Fronts S ls o r p → Fronts T ls o r p
-fronts_so S T ls o p (Ok done) so x = so ls (text_of p) x
+fronts_so S T ls o p (Ok done) so x = (x.0, so ls x.0 x.1, x.2)
 fronts_so S T ls o p (Err why) so x = record {
   done = x.done;
   rest = x.rest;

@@ -1,5 +1,5 @@
 -- A text of which some lines have been run.
-use Rattle.std.proofs.Common.{◌≡◌, ℕ, ◌+◌, ◌*◌, ◌<◌, ◌≤◌, List, [], ◌∷◌, ◌++◌, length, take, Ok, sym, refl, ap, ◌∙◌, subst, append_assoc, append-nil, arith, length-append, length-take}
+use Rattle.std.proofs.Common.{◌-◌, ◌≡◌, ℕ, ◌+◌, ◌*◌, ◌<◌, ◌≤◌, List, [], ◌∷◌, ◌++◌, length, Ok, sym, refl, ap, ◌∙◌, subst, append_assoc, append-nil, arith, length-append}
 use Rattle.policy.specs.Limits.{tasks}
 use Rattle.policy.specs.declared.Policy.{Ghosts}
 use Rattle.history.specs.Steps.{State}
@@ -11,48 +11,58 @@ use Rattle.play.specs.Printed.{granted_text, printed, longest_line}
 use Rattle.play.specs.Playing.{Obeyed, Plays, first_line, next_line, Over}
 
 module _ {P : Type 0} (stated : Ghosts P) where
-  -- of the lines `all` after the first, all but `left` were run, from the table a to b, and n lines have printed the text in o
-  pub record Standing (a : State P) (all left : List (List ℕ)) (n : ℕ) (o : Output) (b : State P) : Type 0 where
+  -- of the lines `all` after the first, all but `left` were run, from the table a to b, and n lines have added what they printed to the text in o
+  pub record Standing (o : Output) (a : State P) (all left : List (List ℕ)) (n : ℕ) (p : Output) (b : State P) : Type 0 where
     pub done : List (List ℕ)
+    pub out : List ℕ
     pub split : all ≡ done ++ left
-    pub plays : Plays stated a n done (text_of o) b
+    pub plays : Plays stated a n done out b
+    pub adds : Adds out o (Ok tt) p
     pub sound : Sound stated.facts b
     pub counted : n ≡ length done + 1
-    pub short : o.used ≤ longest_line * n
+    pub short : p.used ≤ o.used + longest_line * n
 
   -- after the first line
-  pub standing_first : {a : State P} {all left : List (List ℕ)} {n : ℕ} (o p : Output) → all ≡ left → n ≡ 1 → Sound stated.facts a → o.used ≡ 0
-      → Adds (printed 1 granted_text) o (Ok tt) p → p.used ≤ o.used + longest_line → Standing a all left n p a
-  standing_first {a} {all} {left} {n} o p q e h z x w =
-      let whole : text_of p ≡ printed 1 granted_text = x.1 ∙ ap (λ (m : ℕ). take m o.room.now ++ printed 1 granted_text) z in record {
-        done = [];
-        split = q;
-        plays = subst (λ (k : ℕ). Plays stated a k [] (text_of p) a) (sym e)
-            (subst (λ (t : List ℕ). Plays stated a 1 [] t a) (sym whole) first_line);
-        sound = h;
-        counted = e;
-        short = omega (arith, w, z, e);
-      }
+  pub standing_first : {a : State P} {all left : List (List ℕ)} {n : ℕ} (o p : Output) → all ≡ left → n ≡ 1 → Sound stated.facts a
+      → Adds (printed 1 granted_text) o (Ok tt) p → p.used ≤ o.used + longest_line → Standing o a all left n p a
+  standing_first {a} {all} {left} {n} o p q e h x w = record {
+    done = [];
+    out = printed 1 granted_text;
+    split = q;
+    plays = subst (λ (k : ℕ). Plays stated a k [] (printed 1 granted_text) a) (sym e) first_line;
+    adds = x;
+    sound = h;
+    counted = e;
+    short = omega (arith, w, e);
+  }
 
   -- the lines so far, with one more
-  grown : (a b d : State P) (all left : List (List ℕ)) (l : List ℕ) (n k : ℕ) (o : Output) (text : List ℕ) → k ≡ n + 1 → (x : Standing a all (l ∷ left) n o b)
-      → Obeyed stated l b text d → Plays stated a k (x.done ++ (l ∷ [])) (text_of o ++ printed k text) d
-  grown a b d all left l n k o text e x y =
-      subst (λ (m : ℕ). Plays stated a m (x.done ++ (l ∷ [])) (text_of o ++ printed m text) d) (sym e) (next_line l text d x.plays y.obeys)
+  grown : (o : Output) (a b d : State P) (all left : List (List ℕ)) (l : List ℕ) (n k : ℕ) (p : Output) (text : List ℕ) → k ≡ n + 1
+      → (x : Standing o a all (l ∷ left) n p b) → Obeyed stated l b text d → Plays stated a k (x.done ++ (l ∷ [])) (x.out ++ printed k text) d
+  grown o a b d all left l n k p text e x y =
+      subst (λ (m : ℕ). Plays stated a m (x.done ++ (l ∷ [])) (x.out ++ printed m text) d) (sym e) (next_line l text d x.plays y.obeys)
 
   -- one more line
-  pub standing_next : {a b d : State P} {all before left : List (List ℕ)} {l : List ℕ} {n k number : ℕ} {text : List ℕ} {o : Output} (p : Output)
-      → before ≡ l ∷ left → k ≡ n + 1 → number ≡ n + 1 → Standing a all before n o b → Obeyed stated l b text d
-      → Adds (printed number text) o (Ok tt) p → p.used ≤ o.used + longest_line → Standing a all left k p d
-  standing_next {a} {b} {d} {all} {before} {left} {l} {n} {k} {number} {text} {o} p q e e' x y h w =
-      let z = subst (λ (z : List (List ℕ)). Standing a all z n o b) q x in
-      let whole : text_of p ≡ text_of o ++ printed k text = h.1 ∙ ap (λ (m : ℕ). text_of o ++ printed m text) (e' ∙ sym e) in record {
+  pub standing_next : {o : Output} {a b d : State P} {all before left : List (List ℕ)} {l : List ℕ} {n k number : ℕ} {text : List ℕ} {p : Output} (q : Output)
+      → before ≡ l ∷ left → k ≡ n + 1 → number ≡ n + 1 → Standing o a all before n p b → Obeyed stated l b text d
+      → Adds (printed number text) p (Ok tt) q → q.used ≤ p.used + longest_line → Standing o a all left k q d
+  standing_next {o} {a} {b} {d} {all} {before} {left} {l} {n} {k} {number} {text} {p} q e e' e'' x y h w =
+      let z = subst (λ (s : List (List ℕ)). Standing o a all s n p b) e x in
+      let same : number ≡ k = e'' ∙ sym e' in
+      let f = length-append z.out (printed k text) in
+      let m = ap (λ (i : ℕ). length (printed i text)) same in record {
         done = z.done ++ (l ∷ []);
+        out = z.out ++ printed k text;
         split = z.split ∙ sym (append_assoc z.done (l ∷ []) left);
-        plays = subst (λ (t : List ℕ). Plays stated a k (z.done ++ (l ∷ [])) t d) (sym whole) (grown a b d all left l n k o text e z y);
+        plays = grown o a b d all left l n k p text e' z y;
+        adds = (
+          omega (arith, h.0, z.adds.0, f, m),
+          h.1 ∙ ap (λ (i : ℕ). text_of p ++ printed i text) same ∙ ap (λ (s : List ℕ). s ++ printed k text) z.adds.1
+              ∙ append_assoc (text_of o) z.out (printed k text),
+        );
         sound = y.sound;
-        counted = (let f = length-append z.done (l ∷ []) in omega (arith, f, e, z.counted));
-        short = omega (arith, w, e, z.short);
+        counted = (let c = length-append z.done (l ∷ []) in omega (arith, c, e', z.counted));
+        short = omega (arith, w, e', z.short);
       }
 
   -- the first line finds no room
@@ -68,32 +78,38 @@ module _ {P : Type 0} (stated : Ghosts P) where
   }
 
   -- one more line finds no room
-  pub next_too_long : (p : P) {a b d : State P} {all before left : List (List ℕ)} {l : List ℕ} {n k : ℕ} {text : List ℕ} {o : Output} {room : ℕ} → room ≡ size_of o
-      → New stated.facts a → AbortedBelow stated tasks p a.policy → before ≡ l ∷ left → k ≡ n + 1 → Standing a all before n o b
-      → Obeyed stated l b text d → o.used ≤ size_of o → size_of o < o.used + length (printed k text) → TooLong (Over stated p) all room
-  next_too_long p {a} {b} {d} {all} {before} {left} {l} {n} {k} {text} {o} {room} wide new aborted q e x y u h =
-      let z = subst (λ (z : List (List ℕ)). Standing a all z n o b) q x in record {
+  pub next_too_long : (policy : P) {o : Output} {a b d : State P} {all before left : List (List ℕ)} {l : List ℕ} {n k : ℕ} {text : List ℕ} {p : Output}
+      → size_of p ≡ size_of o → New stated.facts a → AbortedBelow stated tasks policy a.policy → before ≡ l ∷ left → k ≡ n + 1
+      → Standing o a all before n p b → Obeyed stated l b text d → p.used ≤ size_of p → size_of p < p.used + length (printed k text)
+      → TooLong (Over stated policy) all (size_of o - o.used)
+  next_too_long policy {o} {a} {b} {d} {all} {before} {left} {l} {n} {k} {text} {p} same new aborted e e' x y fits h =
+      let z = subst (λ (s : List (List ℕ)). Standing o a all s n p b) e x in record {
         done = z.done ++ (l ∷ []);
         rest = left;
-        out = text_of o ++ printed k text;
+        out = z.out ++ printed k text;
         split = z.split ∙ sym (append_assoc z.done (l ∷ []) left);
-        says = record { made = a; new = new; aborted = aborted; lines = k; reached = d; plays = grown a b d all left l n k o text e z y };
-        longer = (let f = length-append (text_of o) (printed k text) in let t = length-take o.used o.room.now in omega (arith, f, t, u, h, wide));
+        says = record { made = a; new = new; aborted = aborted; lines = k; reached = d; plays = grown o a b d all left l n k p text e' z y };
+        longer = (let f = length-append z.out (printed k text) in omega (arith, f, z.adds.0, fits, h, same));
       }
 
   -- all lines were run
-  pub all_played : (p : P) {a b : State P} {all left : List (List ℕ)} {n : ℕ} {o : Output} → New stated.facts a
-      → AbortedBelow stated tasks p a.policy → left ≡ [] → Standing a all left n o b → Over stated p all (text_of o)
-  all_played p {a} {b} {all} {left} {n} {o} new aborted e x = record {
-    made = a;
-    new = new;
-    aborted = aborted;
-    lines = n;
-    reached = b;
-    plays = (let y : all ≡ x.done = x.split ∙ ap (λ (z : List (List ℕ)). x.done ++ z) e ∙ append-nil x.done in
-        subst (λ (z : List (List ℕ)). Plays stated a n z (text_of o) b) (sym y) x.plays);
-  }
+  pub all_played : (policy : P) {o : Output} {a b : State P} {all left : List (List ℕ)} {n : ℕ} {p : Output} → New stated.facts a
+      → AbortedBelow stated tasks policy a.policy → left ≡ [] → Standing o a all left n p b
+      → (out : List ℕ) × Over stated policy all out × Adds out o (Ok tt) p
+  all_played policy {o} {a} {b} {all} {left} {n} {p} new aborted e x = (
+    x.out,
+    record {
+      made = a;
+      new = new;
+      aborted = aborted;
+      lines = n;
+      reached = b;
+      plays = (let y : all ≡ x.done = x.split ∙ ap (λ (z : List (List ℕ)). x.done ++ z) e ∙ append-nil x.done in
+          subst (λ (z : List (List ℕ)). Plays stated a n z x.out b) (sym y) x.plays);
+    },
+    x.adds,
+  )
 
   -- the lines that were run and those that are left are all lines
-  pub lines_counted : {a b : State P} {all left : List (List ℕ)} {n : ℕ} {o : Output} → Standing a all left n o b → n + length left ≡ length all + 1
-  lines_counted {a} {b} {all} {left} {n} {o} x = let h = ap length x.split in let l = length-append x.done left in omega (arith, h, l, x.counted)
+  pub lines_counted : {o : Output} {a b : State P} {all left : List (List ℕ)} {n : ℕ} {p : Output} → Standing o a all left n p b → n + length left ≡ length all + 1
+  lines_counted {o} {a} {b} {all} {left} {n} {p} x = let h = ap length x.split in let l = length-append x.done left in omega (arith, h, l, x.counted)

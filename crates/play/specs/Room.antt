@@ -1,5 +1,5 @@
 -- Text at the front of a caller's buffer.
-use Rattle.std.specs.Prelude.{◌≡◌, ℕ, ◌+◌, ◌<◌, ◌≤◌, List, ◌++◌, length, take, Ok, Err, Result}
+use Rattle.std.specs.Prelude.{◌≡◌, ℕ, ◌+◌, ◌-◌, ◌<◌, ◌≤◌, List, ◌++◌, length, take, Ok, Err, Result}
 use Rattle.play.specs.declared.outcome.NoRoom.{NoRoom}
 use Rattle.play.specs.declared.room.Output.{Output}
 
@@ -34,7 +34,7 @@ pub record TooLong (Says : List (List ℕ) → List ℕ → Type 0) (ls : List (
   pub says : Says done out
   pub longer : room < length out
 
--- the text is what is said of the lines ls; or that doesn't fit
+-- what is said of the lines ls is added behind the text; or there is no room for it
 abbrev pub Fronts : (List (List ℕ) → List ℕ → Type 0) → List (List ℕ) → Output → Result (Unit {0}) NoRoom → Output → Type 0
-Fronts Says ls before (Ok done) after = Says ls (text_of after)
-Fronts Says ls before (Err why) after = TooLong Says ls (size_of before)
+Fronts Says ls before (Ok done) after = (out : List ℕ) × Says ls out × Adds out before (Ok done) after
+Fronts Says ls before (Err why) after = TooLong Says ls (size_of before - before.used)

@@ -1,5 +1,5 @@
 // A text, run over the policy that it names.
-ghost use Rattle.std.specs.Prelude.{◌≡◌, ◌*◌, ◌<◌, length};
+ghost use Rattle.std.specs.Prelude.{◌*◌, ◌<◌, length};
 ghost use Rattle.schedule.specs.Pieces.{lines};
 ghost use Rattle.play.specs.Room.{SameBuffer, Fronts, Within};
 ghost use Rattle.play.specs.Printed.{longest_line};
@@ -19,9 +19,9 @@ use schedule::text::header;
 const CLOCK_START: u32 = 0;
 
 // Runs a text whose first line names the choice.
+// Each arm runs at a policy type of its own: a closure or an impl for each of the six would only name the type once more.
 fn run_choice(choice: Choice, text: &[u8], output: &mut Output) -> Result<(), NoRoom>
-    requires some { 0 < length (lines text.now) }
-    requires empty { output.old.used ≡ 0 }
+    requires { 0 < length (lines text.now) }
     ensures same_buffer { SameBuffer output.old output.new }
     ensures fronts { Fronts (Runs choice) (command_lines text.now) output.old result output.new }
     ensures within { Within (longest_line * length (lines text.now)) output.old result output.new }
@@ -38,7 +38,6 @@ fn run_choice(choice: Choice, text: &[u8], output: &mut Output) -> Result<(), No
 
 // Prints a text's run, or its refusal.
 pub(crate) fn run_text(text: &[u8], output: &mut Output) -> Result<(), NoRoom>
-    requires { output.old.used ≡ 0 }
     ensures same_buffer { SameBuffer output.old output.new }
     ensures fronts { Fronts (PrintsOf text.now) (command_lines text.now) output.old result output.new }
     ensures within { Within (most_printed text.now) output.old result output.new }

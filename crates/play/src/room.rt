@@ -1,5 +1,5 @@
 // Text added piece by piece to what stands at the front of a buffer.
-ghost use Rattle.std.specs.Prelude.{decimal, ◌-◌, take, ◌≡◌, ◌≤◌, ◌++◌, length};
+ghost use Rattle.std.specs.Prelude.{◌≡◌, ◌≤◌, length, decimal};
 ghost use Rattle.std.specs.Fmt.{signed_decimal};
 
 use crate::outcome::NoRoom;

@@ -1,5 +1,5 @@
 // The lines of a text, run on a new table.
-ghost use Rattle.std.specs.Prelude.{◌≡◌, ◌*◌, ◌<◌, length, drop};
+ghost use Rattle.std.specs.Prelude.{◌*◌, ◌<◌, length, drop};
 ghost use Rattle.schedule.specs.Pieces.{lines as lines_of};
 ghost use Rattle.history.specs.Runs.{Sound};
 ghost use Rattle.table.specs.Views.{view};
@@ -34,8 +34,7 @@ pub(crate) fn run_over<P: Policy + Drop>(
     text: &[u8],
     output: &mut Output,
 ) -> Result<(), NoRoom>
-    requires some { 0 < length (lines_of text.now) }
-    requires empty { output.old.used ≡ 0 }
+    requires { 0 < length (lines_of text.now) }
     ensures same_buffer { SameBuffer output.old output.new }
     ensures fronts { Fronts (Over P.Policy policy) (drop 1 (lines_of text.now)) output.old result output.new }
     ensures within { Within (longest_line * length (lines_of text.now)) output.old result output.new }

@@ -14,4 +14,4 @@ pub returns-in-Err-clause-fronts : goal.returns-in-Err-clause-fronts
 returns-in-Err-clause-fronts c =
     let s = c.args.text.now in
     fronts_fault (header_of s) c.in-Err.fault c.line.result (command_lines s) c.args.output.now c.put_line.new.self
-    c.put_line.result c.requires c.in-Err.ensures c.line.ensures c.put_line.ensures.added
+    c.put_line.result c.in-Err.ensures c.line.ensures c.put_line.ensures.added

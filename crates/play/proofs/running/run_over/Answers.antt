@@ -1,4 +1,4 @@
-use Rattle.std.proofs.Common.{[], length, drop, sym, ap, ◌∙◌, arith, rules}
+use Rattle.std.proofs.Common.{◌-◌, [], length, drop, ap, ◌∙◌, arith, rules}
 use Rattle.history.specs.Runs.{none_yet}
 use Rattle.std.specs.Iterator.Adapters.{skip_source, skip_count}
 use Rattle.schedule.specs.Pieces.{lines}
@@ -13,7 +13,7 @@ returns-in_err-put_line-clause-fronts g c =
     let n = c.new-table.ensures in
     let e = c.in_err-put_line.ensures in
     let t = first_too_long g.P.Policy c.args.policy (view c.new-table.result) (drop 1 (lines c.args.text.now))
-    (size_of c.args.output.now) n.new n.aborted (omega (arith, e.added, c.requires.empty)) in search rules
+    (size_of c.args.output.now - c.args.output.now.used) n.new n.aborted (omega (arith, e.added, c.args.output.now.fits)) in search rules
 
 pub loop-line-init : goal.loop-line-init
 loop-line-init g c =
@@ -26,7 +26,7 @@ loop-line-init g c =
       finite = tt;
       same = p.same_buffer;
       standing = standing_first g.P.Policy c.args.output.now c.put_line.new.self
-          h.0 h.1 (n.law (view c.new-table.result) [] none_yet).sound c.requires.empty p.added p.within;
+          h.0 h.1 (n.law (view c.new-table.result) [] none_yet).sound p.added p.within;
     }
 
 pub returns-in_err-put_line-2-clause-fronts : goal.returns-in_err-put_line-2-clause-fronts
@@ -35,7 +35,7 @@ returns-in_err-put_line-2-clause-fronts g c =
     let i = c.loop-line.invariant in
     let s = next_line_out c.loop-line.line-iterator c.next.new.self c.in-Some.line c.in-Some.ensures.steps in
     let o = c.obey-reply.ensures i.standing.sound in
-    let t = next_too_long g.P.Policy c.args.policy (sym i.same.1) n.new n.aborted s.0 s.1 i.standing o c.loop-line.output.fits
+    let t = next_too_long g.P.Policy c.args.policy i.same.1 n.new n.aborted s.0 s.1 i.standing o c.loop-line.output.fits
     c.in_err-put_line-2.ensures.added in search rules
 
 pub returns-in_err-put_line-2-clause-within : goal.returns-in_err-put_line-2-clause-within

@@ -12,5 +12,5 @@ invariant-loop-line g l = record {
   can : (goal.iterator-loop-line g).can_next l.line-iterator;
   finite : (goal.iterator-loop-line g).is_finite l.line-iterator;
   same : SameBuffer l.fn.output l.output;
-  standing : Standing g.P.Policy (view l.initial.table) (drop 1 (lines l.text)) (to_come l.line-iterator) (behind l.line-iterator) l.output (view l.table);
+  standing : Standing g.P.Policy l.fn.output (view l.initial.table) (drop 1 (lines l.text)) (to_come l.line-iterator) (behind l.line-iterator) l.output (view l.table);
 }
