@@ -1,7 +1,7 @@
-mod Adding
 mod Digits
 mod Lengths
 mod Obeying
+mod Skipping
 mod Standing
 mod FirstLine
 mod Filling

@@ -1,6 +1,7 @@
 -- A line is no command and changes nothing, or it is one call on the table.
-use Rattle.std.proofs.Common.{◌≡◌, ℕ, Bool, List, Ok, Err, Result, sym, refl, subst, arith}
+use Rattle.std.proofs.Common.{◌≡◌, ℕ, List, Ok, Err, Result, sym, refl, subst, arith}
 use mathlib.Core.Option.{Option, none, some}
+use Rattle.std.specs.Result.{MatchResult, IsErrAnd}
 use Rattle.schedule.specs.Grammar.{parsed}
 use Rattle.schedule.specs.Texts.{command_at}
 use Rattle.schedule.specs.declared.command.Command.{Command}
@@ -8,8 +9,7 @@ use Rattle.schedule.specs.declared.command.Misfit.{Misfit}
 use Rattle.schedule.specs.declared.fault.BadLine.{BadLine}
 use Rattle.schedule.specs.declared.fault.TextFault.{TextFault}
 use Rattle.schedule.specs.declared.fault.TextFault.TheVariants.{Misshapen, Refused}
-use Rattle.policy.specs.Facts.{Facts}
-use Rattle.policy.specs.Moves.{Move}
+use Rattle.policy.specs.declared.Policy.{Ghosts}
 use Rattle.history.specs.Calls.{Refusal}
 use Rattle.history.specs.Steps.{State}
 use Rattle.history.specs.Runs.{Sound}
@@ -31,31 +31,43 @@ pub no_command_parsed : (n : ℕ) (x : Result Command Misfit) (bad : BadLine) �
 no_command_parsed n (Ok d) bad e = let z : ◌≡◌ {A = ℕ} 0 1 = cc in absurd (omega arith)
 no_command_parsed n (Err why) bad e = (why, refl)
 
-module _ {P : Type 0} (facts : P → Facts) (after : P → Move → P → Type 0) (strict : Bool) where
-  refused_obeys : (l : List ℕ) (c : Command) (a b : State P) (o : Option Refusal) → parsed l ≡ Ok c → Makes facts after strict (call_of c) a (refusing o) b
-      → Obeys facts after strict l a (refused_text (number_or_unfit o)) b
+-- what turns a fault keeps what was granted
+pub kept : {T E F : Type 0} (r : Result T E) (m : Result T F) (Q : E → F → Type 0) (x : T) → m ≡ Ok x
+    → MatchResult r (λ y. m ≡ Ok y) (λ why. IsErrAnd m (Q why)) → r ≡ Ok x
+kept (Ok y) m Q x e h = cc
+kept (Err why) m Q x e h = absurd (subst (λ z. IsErrAnd z (Q why)) e h)
+
+-- and a turned fault comes from a fault
+pub turned : {T E F : Type 0} (r : Result T E) (m : Result T F) (Q : E → F → Type 0) (f : F) → m ≡ Err f
+    → MatchResult r (λ y. m ≡ Ok y) (λ why. IsErrAnd m (Q why)) → (why : E) × (r ≡ Err why) × Q why f
+turned (Ok y) m Q f e h = let z : ◌≡◌ {A = ℕ} 0 1 = cc in absurd (omega arith)
+turned (Err why) m Q f e h = (why, refl, subst (λ z. IsErrAnd z (Q why)) e h)
+
+module _ {P : Type 0} (stated : Ghosts P) where
+  refused_obeys : (l : List ℕ) (c : Command) (a b : State P) (o : Option Refusal) → parsed l ≡ Ok c → Makes stated (call_of c) a (refusing o) b
+      → Obeys stated l a (refused_text (number_or_unfit o)) b
   refused_obeys l c a b none e m = absurd m
   refused_obeys l c a b (some why) e m = performed c _ b e m
 
-  pub granted_line : (l : List ℕ) (n : ℕ) (c : Command) (a b : State P) (x : Outcome) → Ok c ≡ command_at n (parsed l)
-      → Stepped facts after strict (call_of c) a (outcome_or (Ok x)) b → Obeyed facts after strict l a (reply_text (Ok x)) b
-  granted_line l n c a b Done e s = record { obeys = performed c _ b (command_parsed n (parsed l) c e) s.makes; sound = s.sound }
-  granted_line l n c a b (Value x) e s = record { obeys = performed c _ b (command_parsed n (parsed l) c e) s.makes; sound = s.sound }
+  pub granted_line : {l : List ℕ} (n : ℕ) {c : Command} {a b : State P} (x : Outcome) → Ok c ≡ command_at n (parsed l)
+      → Stepped stated (call_of c) a (outcome_or (Ok x)) b → Obeyed stated l a (reply_text (Ok x)) b
+  granted_line {l} n {c} {a} {b} Done e s = record { obeys = performed c _ b (command_parsed n (parsed l) c e) s.makes; sound = s.sound }
+  granted_line {l} n {c} {a} {b} (Value x) e s = record { obeys = performed c _ b (command_parsed n (parsed l) c e) s.makes; sound = s.sound }
 
-  pub refused_line : (l : List ℕ) (n : ℕ) (c : Command) (a b : State P) (why : TableFault) (f : TextFault TableFault) → f ≡ Refused n why
-      → Ok c ≡ command_at n (parsed l) → Stepped facts after strict (call_of c) a (outcome_or (Err why)) b
-      → Obeyed facts after strict l a (reply_text (Err f)) b
-  refused_line l n c a b why f q e s =
-      subst (λ (x : TextFault TableFault). Obeyed facts after strict l a (reply_text (Err x)) b) (sym q) record {
+  pub refused_line : {l : List ℕ} {n : ℕ} {c : Command} {a b : State P} {why : TableFault} {f : TextFault TableFault} → f ≡ Refused n why
+      → Ok c ≡ command_at n (parsed l) → Stepped stated (call_of c) a (outcome_or (Err why)) b
+      → Obeyed stated l a (reply_text (Err f)) b
+  refused_line {l} {n} {c} {a} {b} {why} {f} q e s =
+      subst (λ (x : TextFault TableFault). Obeyed stated l a (reply_text (Err x)) b) (sym q) record {
         obeys = refused_obeys l c a b (refusal_of why) (command_parsed n (parsed l) c e) s.makes;
         sound = s.sound;
       }
 
-  pub bad_line : (l : List ℕ) (n : ℕ) (a : State P) (bad : BadLine) (f : TextFault TableFault) (r : Result Outcome (TextFault TableFault)) → r ≡ Err f
-      → f ≡ Misshapen bad.line bad.misfit → Err bad ≡ command_at n (parsed l) → Sound facts a → Obeyed facts after strict l a (reply_text r) a
-  bad_line l n a bad f r p q e s =
+  pub bad_line : {l : List ℕ} (n : ℕ) {a : State P} (bad : BadLine) {f : TextFault TableFault} {r : Result Outcome (TextFault TableFault)} → r ≡ Err f
+      → f ≡ Misshapen bad.line bad.misfit → Err bad ≡ command_at n (parsed l) → Sound stated.facts a → Obeyed stated l a (reply_text r) a
+  bad_line {l} n {a} bad {f} {r} p q e s =
       let w = no_command_parsed n (parsed l) bad e in
       let h : r ≡ Err (Misshapen bad.line bad.misfit) = cc in
-      subst (λ (x : Result Outcome (TextFault TableFault)). Obeyed facts after strict l a (reply_text x) a)
+      subst (λ (x : Result Outcome (TextFault TableFault)). Obeyed stated l a (reply_text x) a)
       (sym h)
       (record { obeys = no_command w.0 w.1; sound = s })

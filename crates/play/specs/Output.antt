@@ -1,5 +1,5 @@
 -- What is printed of a whole text.
-use Rattle.std.specs.Prelude.{◌≡◌, ℕ, ◌+◌, ◌-◌, ◌*◌, min, Bool, true, false, List, ◌++◌, length, drop, replicate, Ok, Err, Result}
+use Rattle.std.specs.Prelude.{◌≡◌, ℕ, ◌+◌, ◌-◌, ◌*◌, min, List, ◌++◌, length, drop, replicate, Ok, Err, Result}
 use Rattle.schedule.specs.Pieces.{lines}
 use Rattle.schedule.specs.Texts.{header_of, longest_text}
 use Rattle.schedule.specs.Faults.{fault_line, fault_number}
@@ -7,21 +7,23 @@ use Rattle.schedule.specs.declared.choice.Choice.{Choice}
 use Rattle.schedule.specs.declared.choice.Choice.TheVariants.{Plain, Eager}
 use Rattle.schedule.specs.declared.choice.Kind.TheVariants.{Lock, Own, Clock}
 use Rattle.schedule.specs.declared.fault.TextFault.{TextFault}
-use Rattle.policy.specs.Facts.{Facts}
-use Rattle.policy.specs.Moves.{Move}
+use Rattle.policy.specs.declared.Policy.{Ghosts}
 use Rattle.transactions.specs.Sets.{no_transactions}
 use Rattle.lock.specs.declared.Lock.{Lock as LockPolicy}
-use Rattle.lock.specs.After.{held as locks_held, facts as lock_facts, After as LockAfter}
+use Rattle.lock.specs.After.{held as locks_held}
+use Rattle.lock.specs.contracts.Lock as lock_type
+use Rattle.lock.specs.contracts.calls.LockPolicy.TheImpl as lock_impl
 use Rattle.own.specs.declared.Own.{Own as OwnPolicy}
 use Rattle.own.specs.Ownership.{idle as none_owned}
-use Rattle.own.specs.After.{state as ownership, facts as own_facts, After as OwnAfter}
+use Rattle.own.specs.After.{state as ownership}
+use Rattle.own.specs.contracts.Own as own_type
+use Rattle.own.specs.contracts.OwnPolicy.TheImpl as own_impl
 use Rattle.clock.specs.declared.state.Clock.{Clock as ClockPolicy}
-use Rattle.clock.specs.Held.{meaning}
 use Rattle.clock.specs.Steps.{new_policy}
 use Rattle.clock.specs.Clocks.{held as clock_held}
-use Rattle.clock.specs.After.{After as ClockAfter}
-use Rattle.eager.specs.declared.Eager.{Eager as EagerPolicy}
-use Rattle.eager.specs.Layer.{fenced, After as LayerAfter}
+use Rattle.clock.specs.contracts.state.Clock as clock_type
+use Rattle.clock.specs.contracts.calls.ClockPolicy.TheImpl as clock_impl
+use Rattle.eager.specs.contracts.EagerPolicy.TheImpl as eager_impl
 use Rattle.table.specs.Faults.{numbered}
 use Rattle.table.specs.declared.fault.TableFault.{TableFault}
 use Rattle.play.specs.declared.outcome.NoRoom.{NoRoom}
@@ -30,19 +32,10 @@ use Rattle.play.specs.Printed.{printed, refused_text, longest_line}
 use Rattle.play.specs.Playing.{Over}
 
 -- a text with the lines ls after the first prints `out` over some policy that starts so
-pub record From {P : Type 0} (facts : P → Facts) (after : P → Move → P → Type 0) (strict : Bool) (Starts : P → Type 0) (ls : List (List ℕ)) (out : List ℕ) : Type 0 where
+pub record From {P : Type 0} (stated : Ghosts P) (Starts : P → Type 0) (ls : List (List ℕ)) (out : List ℕ) : Type 0 where
   pub policy : P
   pub starts : Starts policy
-  pub over : Over facts after strict policy ls out
-
-abbrev pub clock_facts : ClockPolicy → Facts
-clock_facts p = meaning (clock_held p)
-
--- the same under the eager layer
-abbrev pub FromEager : {P : Type 0} → (P → Facts) → (P → Move → P → Type 0) → Bool → (P → Type 0) → List (List ℕ) → List ℕ → Type 0
-FromEager {P} facts after strict Starts =
-    From {P = EagerPolicy P} (λ p. fenced (facts p.below)) (λ p m q. LayerAfter facts strict after p.below m q.below) strict
-    (λ p. Starts p.below)
+  pub over : Over stated policy ls out
 
 -- a new policy: no task has a transaction, and the clock is 0
 abbrev pub NewLock : LockPolicy → Type 0
@@ -56,12 +49,12 @@ NewClock p = clock_held p ≡ new_policy 0
 
 -- what is printed over the policy of a choice
 abbrev pub Runs : Choice → List (List ℕ) → List ℕ → Type 0
-Runs (Plain Lock) = From lock_facts LockAfter true NewLock
-Runs (Plain Own) = From own_facts OwnAfter true NewOwn
-Runs (Plain Clock) = From clock_facts ClockAfter false NewClock
-Runs (Eager Lock) = FromEager lock_facts LockAfter true NewLock
-Runs (Eager Own) = FromEager own_facts OwnAfter true NewOwn
-Runs (Eager Clock) = FromEager clock_facts ClockAfter false NewClock
+Runs (Plain Lock) = From lock_impl.ghosts NewLock
+Runs (Plain Own) = From own_impl.ghosts NewOwn
+Runs (Plain Clock) = From clock_impl.ghosts NewClock
+Runs (Eager Lock) = From (eager_impl.ghosts lock_type.the_row lock_impl.ghosts lock_impl.dict) (λ p. NewLock p.below)
+Runs (Eager Own) = From (eager_impl.ghosts own_type.the_row own_impl.ghosts own_impl.dict) (λ p. NewOwn p.below)
+Runs (Eager Clock) = From (eager_impl.ghosts clock_type.the_row clock_impl.ghosts clock_impl.dict) (λ p. NewClock p.below)
 
 -- what is printed by a first line and the lines after it: a text that has no policy is refused in one line
 abbrev pub Says : Result Choice (TextFault TableFault) → List (List ℕ) → List ℕ → Type 0
@@ -86,7 +79,7 @@ most_printed_of_length n = longest_line * (min n longest_text + 1)
 
 -- how much room is always enough for what is printed of a text
 abbrev pub most_printed : List ℕ → ℕ
-most_printed text = longest_line * (min (length text) longest_text + 1)
+most_printed text = most_printed_of_length (length text)
 
 -- the buffer holds what is printed, and then zeros; zeros alone where there is no room for it
 abbrev pub Filled : List ℕ → List ℕ → Result ℕ NoRoom → List ℕ → Type 0

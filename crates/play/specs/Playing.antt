@@ -1,11 +1,10 @@
 -- A schedule's lines, run one after another on a table over any policy.
-use Rattle.std.specs.Prelude.{◌≡◌, ℕ, ◌+◌, Bool, List, [], ◌∷◌, ◌++◌, Ok, Err}
+use Rattle.std.specs.Prelude.{◌≡◌, ℕ, ◌+◌, List, [], ◌∷◌, ◌++◌, Ok, Err}
 use Rattle.schedule.specs.Grammar.{parsed}
 use Rattle.schedule.specs.declared.command.Command.{Command}
 use Rattle.schedule.specs.declared.command.Misfit.{Misfit}
 use Rattle.policy.specs.Limits.{tasks}
-use Rattle.policy.specs.Facts.{Facts}
-use Rattle.policy.specs.Moves.{Move}
+use Rattle.policy.specs.declared.Policy.{Ghosts}
 use Rattle.history.specs.Calls.{Answer}
 use Rattle.history.specs.Steps.{State, Step}
 use Rattle.history.specs.Runs.{Sound, New}
@@ -17,16 +16,17 @@ use Rattle.play.specs.Performing.{call_of}
 abbrev pub no_command_number : ℕ
 no_command_number = 5
 
-module _ {P : Type 0} (facts : P → Facts) (after : P → Move → P → Type 0) (strict : Bool) where
+-- over a policy, by what it states of itself
+module _ {P : Type 0} (stated : Ghosts P) where
   -- what the line l does to a table and what is told of it: one that is no command changes nothing, and a command is one call
   pub data Obeys (l : List ℕ) (a : State P) : List ℕ → State P → Type 0 where
     no_command : (why : Misfit) → parsed l ≡ Err why → Obeys l a (refused_text no_command_number) a
-    performed : (c : Command) (r : Answer) (b : State P) → parsed l ≡ Ok c → Step facts after strict (call_of c) a r b → Obeys l a (answer_text r) b
+    performed : (c : Command) (r : Answer) (b : State P) → parsed l ≡ Ok c → Step stated.facts stated.after stated.STRICT (call_of c) a r b → Obeys l a (answer_text r) b
 
   -- the line does so, and stages and policy agree after it
   pub record Obeyed (l : List ℕ) (a : State P) (text : List ℕ) (b : State P) : Type 0 where
     pub obeys : Obeys l a text b
-    pub sound : Sound facts b
+    pub sound : Sound stated.facts b
 
   -- the first n lines of a text, of which ls come after the first, have printed `out` and led from the table a to b
   pub data Plays (a : State P) : ℕ → List (List ℕ) → List ℕ → State P → Type 0 where
@@ -37,8 +37,8 @@ module _ {P : Type 0} (facts : P → Facts) (after : P → Move → P → Type 0
   -- a text with the lines ls after the first prints `out` from a new table over the policy p
   pub record Over (p : P) (ls : List (List ℕ)) (out : List ℕ) : Type 0 where
     pub made : State P
-    pub new : New facts made
-    pub aborted : AbortedBelow facts after tasks p made.policy
+    pub new : New stated.facts made
+    pub aborted : AbortedBelow stated tasks p made.policy
     pub lines : ℕ
     pub reached : State P
     pub plays : Plays made lines ls out reached

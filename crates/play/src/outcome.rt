@@ -1,30 +1,34 @@
 // What a line of a schedule comes to, and why output is refused.
 ghost use Rattle.std.specs.Prelude.{◌≡◌};
-ghost use Rattle.play.specs.declared.outcome.RunFault.TheVariants.{NoMemory as no_memory};
+ghost use Rattle.play.specs.declared.outcome.Outcome.TheVariants.{Done as done, Value as value};
 
-use std::alloc::AllocError;
+use policy::Granted;
+use table::answer::Reading;
 
 // What a granted command tells.
+// No `Option`: its `None` would read as no answer, and `Done` is one.
 #[derive(Clone, Copy, Debug, PartialEq, Eq)]
 pub enum Outcome {
     Done,
     Value(i32),
 }
 
+impl From<Granted> for Outcome {
+    ghost from_gives = { λ _ r. r ≡ done };
+
+    fn from(_granted: Granted) -> Outcome {
+        Outcome::Done
+    }
+}
+
+impl From<Reading> for Outcome {
+    ghost from_gives = { λ reading r. r ≡ value reading.value };
+
+    fn from(reading: Reading) -> Outcome {
+        Outcome::Value(reading.value)
+    }
+}
+
 // The buffer is too short for all that is printed.
 #[derive(Clone, Copy, Debug, PartialEq, Eq)]
 pub struct NoRoom;
-
-// Why the output of a text could not be made.
-#[derive(Clone, Copy, Debug, PartialEq, Eq)]
-pub enum RunFault {
-    NoMemory,
-}
-
-impl From<AllocError> for RunFault {
-    ghost from_gives = { λ _ r. r ≡ no_memory };
-
-    fn from(_none: AllocError) -> RunFault {
-        RunFault::NoMemory
-    }
-}

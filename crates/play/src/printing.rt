@@ -1,10 +1,9 @@
 // What is printed of a line.
-ghost use Rattle.std.specs.Prelude.{◌≤◌, length};
-ghost use Rattle.play.specs.Room.{Adds, Within};
-ghost use Rattle.play.specs.Printed.{printed, value_text, refused_text, reply_text, longest_reply, longest_line};
+ghost use Rattle.play.specs.Room.{SameBuffer, Adds, Within};
+ghost use Rattle.play.specs.Printed.{printed, reply_text, longest_reply, longest_line};
 
 use crate::outcome::{NoRoom, Outcome};
-use crate::room::{put_number, put_text, put_value};
+use crate::room::Output;
 use refusal::Refusal;
 use schedule::fault::TextFault;
 use table::fault::TableFault;
@@ -12,48 +11,35 @@ use table::fault::TableFault;
 // What a line came to: what its command told, or the text's fault.
 pub(crate) type Reply = Result<Outcome, TextFault<TableFault>>;
 
-fn put_reading(room: &mut [u8], used: usize, value: i32) -> Result<usize, NoRoom>
-    requires { used ≤ length room.old }
-    ensures added { Adds (value_text value) used room.old result room.new }
-    ensures within { Within longest_reply used room.old result }
-{
-    let used = put_text(room, used, b" = ")?;
-    put_value(room, used, value)
-}
-
-fn put_refusal(room: &mut [u8], used: usize, number: u8) -> Result<usize, NoRoom>
-    requires { used ≤ length room.old }
-    ensures added { Adds (refused_text number) used room.old result room.new }
-    ensures within { Within longest_reply used room.old result }
-{
-    let used = put_text(room, used, b" no ")?;
-    put_number(room, used, number as u64)
-}
-
-fn put_reply(room: &mut [u8], used: usize, reply: Reply) -> Result<usize, NoRoom>
-    requires { used ≤ length room.old }
-    ensures added { Adds (reply_text reply) used room.old result room.new }
-    ensures within { Within longest_reply used room.old result }
-{
-    match reply {
-        Ok(Outcome::Done) => put_text(room, used, b" ok"),
-        Ok(Outcome::Value(value)) => put_reading(room, used, value),
-        Err(fault) => put_refusal(room, used, fault.number()),
+impl Output<'_> {
+    #[tactic(auto, using(crate::proofs::Lengths::value_short, crate::proofs::Lengths::refused_short))]
+    fn put_reply(&mut self, reply: Reply) -> Result<(), NoRoom>
+        ensures same_buffer { SameBuffer self.old self.new }
+        ensures added { Adds (reply_text reply) self.old result self.new }
+        ensures within { Within longest_reply self.old result self.new }
+    {
+        match reply {
+            Ok(Outcome::Done) => self.put_text(b" ok"),
+            Ok(Outcome::Value(value)) => {
+                self.put_text(b" = ")?;
+                self.put_value(value)
+            }
+            Err(fault) => {
+                self.put_text(b" no ")?;
+                self.put_number(fault.number() as u64)
+            }
+        }
     }
-}
 
-// The line's number, what it came to, and LF.
-pub(crate) fn put_line(
-    room: &mut [u8],
-    used: usize,
-    line: usize,
-    reply: Reply,
-) -> Result<usize, NoRoom>
-    requires { used ≤ length room.old }
-    ensures added { Adds (printed line (reply_text reply)) used room.old result room.new }
-    ensures within { Within longest_line used room.old result }
-{
-    let used = put_number(room, used, line as u64)?;
-    let used = put_reply(room, used, reply)?;
-    put_text(room, used, b"\n")
+    // The line's number, what it came to, and LF.
+    #[tactic(auto, using(crate::proofs::Lengths::number_short))]
+    pub(crate) fn put_line(&mut self, line: usize, reply: Reply) -> Result<(), NoRoom>
+        ensures same_buffer { SameBuffer self.old self.new }
+        ensures added { Adds (printed line (reply_text reply)) self.old result self.new }
+        ensures within { Within longest_line self.old result self.new }
+    {
+        self.put_number(line as u64)?;
+        self.put_reply(reply)?;
+        self.put_text(b"\n")
+    }
 }

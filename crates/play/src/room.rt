@@ -1,85 +1,94 @@
 // Text added piece by piece to what stands at the front of a buffer.
-ghost use Rattle.std.specs.Prelude.{◌≡◌, ◌-◌, ◌≤◌, [], ◌∷◌, ◌++◌, length, take, decimal};
+ghost use Rattle.std.specs.Prelude.{◌≡◌, ◌≤◌, length, decimal};
 ghost use Rattle.std.specs.Fmt.{signed_decimal};
-ghost use Rattle.play.specs.Room.{Adds};
 
 use crate::outcome::NoRoom;
 
-fn put_byte(room: &mut [u8], used: usize, byte: u8) -> Result<usize, NoRoom>
-    requires { used ≤ length room.old }
-    ensures { Adds (byte ∷ []) used room.old result room.new }
-{
-    if used >= room.len() {
-        return Err(NoRoom);
-    }
-    room[used] = byte;
-    Ok(used + 1)
+// A caller's buffer, with the text in its first `used` bytes.
+#[derive(Drop)]
+pub(crate) struct Output<'a> {
+    room: &'a mut [u8],
+    used: usize,
+    ghost fits: { used ≤ length room.now },
 }
 
-// A text without numbers.
-pub(crate) fn put_text(room: &mut [u8], used: usize, text: &[u8]) -> Result<usize, NoRoom>
-    requires { used ≤ length room.old }
-    ensures { Adds text.now used room.old result room.new }
-{
-    if room.len() - used < text.len() {
-        return Err(NoRoom);
+impl<'a> Output<'a> {
+    ghost use Rattle.play.specs.Room.{SameBuffer, Adds};
+
+    // No text yet.
+    pub(crate) fn new(room: &'a mut [u8]) -> Output<'a>
+        ensures same_buffer { result.room.ghost_name ≡ room.entry.ghost_name }
+        ensures buffer { result.room.now ≡ room.old }
+        ensures empty { result.used ≡ 0 }
+    {
+        Output { room, used: 0 }
     }
-    let end = used + text.len();
-    room[used..end].copy_from_slice(text);
-    Ok(end)
+
+    // How long the text is.
+    pub(crate) fn len(&self) -> usize
+        ensures { result ≡ self.now.used }
+    {
+        self.used
+    }
+
+    // A text without numbers.
+    pub(crate) fn put_text(&mut self, text: &[u8]) -> Result<(), NoRoom>
+        ensures same_buffer { SameBuffer self.old self.new }
+        ensures added { Adds text.now self.old result self.new }
+    {
+        if self.room.len() - self.used < text.len() {
+            return Err(NoRoom);
+        }
+        let end = self.used + text.len();
+        self.room[self.used..end].copy_from_slice(text);
+        self.used = end;
+        Ok(())
+    }
+
+    // A number in decimal.
+    pub(crate) fn put_number(&mut self, number: u64) -> Result<(), NoRoom>
+        ensures same_buffer { SameBuffer self.old self.new }
+        ensures added { Adds (decimal number) self.old result self.new }
+    {
+        let digits = count_digits(number);
+        if self.room.len() - self.used < digits {
+            return Err(NoRoom);
+        }
+        let end = self.used + digits;
+        put_digits(&mut self.room[self.used..end], number);
+        self.used = end;
+        Ok(())
+    }
+
+    // A value with its sign.
+    pub(crate) fn put_value(&mut self, value: i32) -> Result<(), NoRoom>
+        ensures same_buffer { SameBuffer self.old self.new }
+        ensures added { Adds (signed_decimal value) self.old result self.new }
+    {
+        if value < 0 {
+            self.put_text(b"-")?;
+        }
+        self.put_number(value.unsigned_abs() as u64)
+    }
 }
 
 // How many digits a number has.
-fn count_digits(n: u64) -> usize
-    ensures { result ≡ length (decimal n) }
+#[tactic(auto, using(crate::proofs::Digits::digits_counted))]
+fn count_digits(number: u64) -> usize
+    ensures { result ≡ length (decimal number) }
 {
-    let mut left = n;
-    let mut count = 1;
-    while left >= 10 {
-        left /= 10;
-        count += 1;
-    }
-    count
+    number.max(1).ilog10() as usize + 1
 }
 
-// Puts the digits of a number before a place, from the last to the first.
-fn put_digits(room: &mut [u8], end: usize, n: u64)
-    requires digits { length (decimal n) ≤ end }
-    requires room { end ≤ length room.old }
-    ensures { take end room.new ≡ take (end - length (decimal n)) room.old ++ decimal n }
+// Puts the digits of a number where there is room for just them, from the last to the first.
+// By hand: with itoa's `Buffer` or `write_digits` a short line took 8 to 25 percent longer.
+fn put_digits(place: &mut [u8], number: u64)
+    requires { length place.old ≡ length (decimal number) }
+    ensures { place.new ≡ decimal number }
 {
-    let mut left = n;
-    let mut at = end;
-    while left >= 10 {
-        at -= 1;
-        room[at] = b'0' + (left % 10) as u8;
+    let mut left = number;
+    for i in (0..place.len()).rev() {
+        place[i] = b'0' + (left % 10) as u8;
         left /= 10;
     }
-    room[at - 1] = b'0' + left as u8;
-}
-
-// A number in decimal.
-pub(crate) fn put_number(room: &mut [u8], used: usize, n: u64) -> Result<usize, NoRoom>
-    requires { used ≤ length room.old }
-    ensures { Adds (decimal n) used room.old result room.new }
-{
-    let digits = count_digits(n);
-    if room.len() - used < digits {
-        return Err(NoRoom);
-    }
-    let end = used + digits;
-    put_digits(room, end, n);
-    Ok(end)
-}
-
-// A value with its sign.
-pub(crate) fn put_value(room: &mut [u8], used: usize, value: i32) -> Result<usize, NoRoom>
-    requires { used ≤ length room.old }
-    ensures { Adds (signed_decimal value) used room.old result room.new }
-{
-    if value < 0 {
-        let used = put_byte(room, used, b'-')?;
-        return put_number(room, used, value.unsigned_abs() as u64);
-    }
-    put_number(room, used, value as u64)
 }

@@ -3,49 +3,47 @@ ghost use Rattle.std.specs.Prelude.{◌*◌, ◌<◌, length, drop};
 ghost use Rattle.schedule.specs.Pieces.{lines as lines_of};
 ghost use Rattle.history.specs.Runs.{Sound};
 ghost use Rattle.table.specs.Views.{view};
-ghost use Rattle.play.specs.Room.{Fronts, Within};
+ghost use Rattle.play.specs.Room.{SameBuffer, Fronts, Within};
 ghost use Rattle.play.specs.Printed.{reply_text, longest_line};
 ghost use Rattle.play.specs.Playing.{Obeyed, Over};
 
 use crate::outcome::{NoRoom, Outcome};
 use crate::performing::perform;
-use crate::printing::{Reply, put_line};
+use crate::printing::Reply;
+use crate::room::Output;
 use policy::Policy;
-use schedule::fault::{RefusedLine, TextFault};
+use schedule::fault::RefusedLine;
 use schedule::lines::{Line, Lines};
 use table::table::Table;
 
 // Does what a line says, if it is a command.
 fn obey<P: Policy>(table: &mut Table<P>, line: Line) -> Reply
-    ensures { Sound P.Policy.facts (view table.old) → Obeyed P.Policy.facts P.Policy.after P.Policy.STRICT line.entry.bytes.now (view table.old) (reply_text result) (view table.new) }
+    ensures { Sound P.Policy.facts (view table.old) → Obeyed P.Policy line.entry.bytes.now (view table.old) (reply_text result) (view table.new) }
 {
     let command = line.command()?;
-    match perform(table, command) {
-        Ok(outcome) => Ok(outcome),
-        Err(fault) => Err(TextFault::from(RefusedLine {
-            line: line.number,
-            fault,
-        })),
-    }
+    let outcome = perform(table, command).map_err(|fault| RefusedLine {
+        line: line.number,
+        fault,
+    })?;
+    Ok(outcome)
 }
 
 // Runs the lines after the first, and prints what each came to.
 pub(crate) fn run_over<P: Policy + Drop>(
     policy: P,
     text: &[u8],
-    room: &mut [u8],
-) -> Result<usize, NoRoom>
+    output: &mut Output,
+) -> Result<(), NoRoom>
     requires { 0 < length (lines_of text.now) }
-    ensures fronts { Fronts (Over P.Policy.facts P.Policy.after P.Policy.STRICT policy) (drop 1 (lines_of text.now)) room.old result room.new }
-    ensures within { Within (longest_line * length (lines_of text.now)) 0 room.old result }
+    ensures same_buffer { SameBuffer output.old output.new }
+    ensures fronts { Fronts (Over P.Policy policy) (drop 1 (lines_of text.now)) output.old result output.new }
+    ensures within { Within (longest_line * length (lines_of text.now)) output.old result output.new }
 {
     let mut table = Table::new(policy);
-    let mut used = put_line(room, 0, 1, Ok(Outcome::Done))?;
-    let mut lines = Lines::new(text);
-    let _ = lines.next();
-    for line in lines {
+    output.put_line(1, Ok(Outcome::Done))?;
+    for line in Lines::new(text).skip(1) {
         let reply = obey(&mut table, line);
-        used = put_line(room, used, line.number, reply)?;
+        output.put_line(line.number, reply)?;
     }
-    Ok(used)
+    Ok(())
 }

@@ -43,13 +43,8 @@ fn room_that_is_always_enough(rt: HostRuntime) {
 
 // A text of `lines` lines `A 255`, behind `lock`, and then the bytes of `end`.
 fn long_text(heap: Global, lines: usize, end: &[u8]) -> Result<Vec<u8>, Fail> {
-    let mut text = Vec::new(heap);
-    text.extend_from_slice(b"lock\n")?;
-    for _ in 0..lines {
-        text.extend_from_slice(b"A 255\n")?;
-    }
-    text.extend_from_slice(end)?;
-    Ok(text)
+    let middle = b"A 255\n".repeat(heap, lines)?;
+    Ok([b"lock\n", middle.as_slice(), end].concat(heap)?)
 }
 
 #[test]

@@ -12,7 +12,7 @@ use own::Own;
 use play::texts::{room_for_length, run_into};
 use table::table::Table;
 
-// What a caller is told where the buffer is too short.
+// What a caller is told where the buffer is too short: no enum crosses to C.
 const NO_ROOM: i64 = -1;
 
 // Runs a text and fills the buffer with what is printed; the answer is how long that is.

@@ -1,10 +1,8 @@
 // Reads a schedule text from standard input, runs it, and prints what each line came to.
 #![tactic(auto)]
 
-use play::outcome::RunFault;
 use play::texts::run;
 use schedule::text::LONGEST_TEXT;
-use std::alloc::AllocError;
 use std::io;
 use std::io::{Read, Write};
 
@@ -14,8 +12,6 @@ const MOST_READ: u64 = LONGEST_TEXT as u64 + 1;
 fn main(rt: HostRuntime) -> io::Result<()> {
     let mut text = Vec::new(rt.alloc());
     rt.stdin().take(MOST_READ).read_to_end(&mut text)?;
-    match run(rt.alloc(), &text) {
-        Ok(output) => rt.stdout().write_all(&output),
-        Err(RunFault::NoMemory) => Err(io::Error::from(AllocError)),
-    }
+    let output = run(rt.alloc(), &text)?;
+    rt.stdout().write_all(&output)
 }

@@ -1,13 +1,16 @@
--- What was printed so far is that of the lines so far.
-use Rattle.std.proofs.Common.{◌≤◌, length, take}
-use Rattle.schedule.specs.Pieces.{lines_left}
+-- The text in the output is that of the lines so far.
+use Rattle.std.proofs.Common.{drop}
+use Rattle.schedule.specs.Pieces.{lines}
 use Rattle.table.specs.Views.{view}
+use Rattle.play.specs.Room.{SameBuffer}
+use Rattle.play.proofs.Skipping.{to_come, behind}
 use Rattle.play.proofs.Standing.{Standing}
 use Rattle.play.proofs.running.run_over.Given as goal
 
 abbrev pub invariant-loop-line : goal.invariant-loop-line
-invariant-loop-line g l =
-    (goal.iterator-loop-line g).can_next l.line-iterator × (goal.iterator-loop-line g).is_finite l.line-iterator
-    × Standing g.P.Policy.facts g.P.Policy.after g.P.Policy.STRICT (view l.initial.table) (lines_left l.initial.line-iterator.rest)
-    (lines_left l.line-iterator.rest) l.line-iterator.count (take l.used l.room) l.used (view l.table)
-    × (l.used ≤ length l.room)
+invariant-loop-line g l = record {
+  can : (goal.iterator-loop-line g).can_next l.line-iterator;
+  finite : (goal.iterator-loop-line g).is_finite l.line-iterator;
+  same : SameBuffer l.fn.output l.output;
+  standing : Standing g.P.Policy l.fn.output (view l.initial.table) (drop 1 (lines l.text)) (to_come l.line-iterator) (behind l.line-iterator) l.output (view l.table);
+}
