@@ -2,12 +2,9 @@
 #![tactic(auto)]
 
 use play::texts::run;
-use schedule::text::LONGEST_TEXT;
+use schedule::text::MOST_READ;
 use std::io;
 use std::io::{Read, Write};
-
-// One byte more than a text may have, so that a text that is too long is seen to be.
-const MOST_READ: u64 = LONGEST_TEXT as u64 + 1;
 
 fn main(rt: HostRuntime) -> io::Result<()> {
     let mut text = Vec::new(rt.alloc());
