@@ -1,5 +1,5 @@
 // The same calls to every policy, with what each answers.
-use crate::answers::{Answer, GRANTED, UNFIT, same};
+use crate::answers::{Answer, GRANTED, UNFIT};
 use clock::Clock;
 use eager::Eager;
 use lock::Lock;
@@ -39,13 +39,11 @@ fn overtaken_writer<P: Policy>(policy: &mut P) -> [Answer; 9] {
 fn lock_bars_the_writer(rt: HostRuntime) {
     let barred = Err(PolicyFault::WriteBarred(5));
     let answers = overtaken_reader(&mut Lock::new());
-    assert!(rt;
-        same(
-            &answers,
-            &[
-                GRANTED, GRANTED, GRANTED, barred, UNFIT, GRANTED, GRANTED, GRANTED,
-            ],
-        )
+    assert_eq!(rt;
+        answers,
+        [
+            GRANTED, GRANTED, GRANTED, barred, UNFIT, GRANTED, GRANTED, GRANTED
+        ]
     );
 }
 
@@ -53,13 +51,11 @@ fn lock_bars_the_writer(rt: HostRuntime) {
 fn own_bars_the_overtaken_reader(rt: HostRuntime) {
     let barred = Err(PolicyFault::ReadBarred(6));
     let answers = overtaken_reader(&mut Own::new());
-    assert!(rt;
-        same(
-            &answers,
-            &[
-                GRANTED, GRANTED, GRANTED, GRANTED, GRANTED, barred, UNFIT, UNFIT,
-            ],
-        )
+    assert_eq!(rt;
+        answers,
+        [
+            GRANTED, GRANTED, GRANTED, GRANTED, GRANTED, barred, UNFIT, UNFIT
+        ]
     );
 }
 
@@ -67,13 +63,11 @@ fn own_bars_the_overtaken_reader(rt: HostRuntime) {
 fn own_refuses_the_overtaken_commit(rt: HostRuntime) {
     let refused = Err(PolicyFault::CommitRefused);
     let answers = overtaken_writer(&mut Own::new());
-    assert!(rt;
-        same(
-            &answers,
-            &[
-                GRANTED, GRANTED, GRANTED, GRANTED, GRANTED, GRANTED, GRANTED, GRANTED, refused,
-            ],
-        )
+    assert_eq!(rt;
+        answers,
+        [
+            GRANTED, GRANTED, GRANTED, GRANTED, GRANTED, GRANTED, GRANTED, GRANTED, refused
+        ]
     );
 }
 
@@ -82,13 +76,11 @@ fn own_refuses_the_overtaken_commit(rt: HostRuntime) {
 fn clock_refuses_the_overtaken_commit(rt: HostRuntime) {
     let refused = Err(PolicyFault::CommitRefused);
     let answers = overtaken_reader(&mut Clock::new(0));
-    assert!(rt;
-        same(
-            &answers,
-            &[
-                GRANTED, GRANTED, GRANTED, GRANTED, GRANTED, GRANTED, GRANTED, refused,
-            ],
-        )
+    assert_eq!(rt;
+        answers,
+        [
+            GRANTED, GRANTED, GRANTED, GRANTED, GRANTED, GRANTED, GRANTED, refused
+        ]
     );
 }
 
@@ -96,13 +88,11 @@ fn clock_refuses_the_overtaken_commit(rt: HostRuntime) {
 fn eager_clock_bars_the_overtaken_reader(rt: HostRuntime) {
     let barred = Err(PolicyFault::ReadBarred(6));
     let answers = overtaken_reader(&mut Eager::new(Clock::new(0)));
-    assert!(rt;
-        same(
-            &answers,
-            &[
-                GRANTED, GRANTED, GRANTED, GRANTED, GRANTED, barred, UNFIT, UNFIT,
-            ],
-        )
+    assert_eq!(rt;
+        answers,
+        [
+            GRANTED, GRANTED, GRANTED, GRANTED, GRANTED, barred, UNFIT, UNFIT
+        ]
     );
 }
 
@@ -110,13 +100,11 @@ fn eager_clock_bars_the_overtaken_reader(rt: HostRuntime) {
 fn eager_bars_the_overtaken_writer(rt: HostRuntime) {
     let barred = Err(PolicyFault::WriteBarred(7));
     let answers = overtaken_writer(&mut Eager::new(Own::new()));
-    assert!(rt;
-        same(
-            &answers,
-            &[
-                GRANTED, GRANTED, GRANTED, GRANTED, GRANTED, GRANTED, GRANTED, barred, UNFIT,
-            ],
-        )
+    assert_eq!(rt;
+        answers,
+        [
+            GRANTED, GRANTED, GRANTED, GRANTED, GRANTED, GRANTED, GRANTED, barred, UNFIT
+        ]
     );
 }
 
@@ -125,5 +113,5 @@ fn eager_bars_the_overtaken_writer(rt: HostRuntime) {
 fn two_layers_answer_as_one(rt: HostRuntime) {
     let one = overtaken_writer(&mut Eager::new(Own::new()));
     let two = overtaken_writer(&mut Eager::new(Eager::new(Own::new())));
-    assert!(rt; same(&one, &two));
+    assert_eq!(rt; one, two);
 }

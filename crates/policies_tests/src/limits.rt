@@ -1,5 +1,5 @@
 // Calls at the last task and the last variable, and just past them.
-use crate::answers::{Answer, GRANTED, UNFIT, same};
+use crate::answers::{Answer, GRANTED, UNFIT};
 use clock::Clock;
 use eager::Eager;
 use lock::Lock;
@@ -20,12 +20,10 @@ fn last_task<P: Policy>(policy: &mut P) -> bool {
         policy.commit(7),
         policy.commit(7),
     ];
-    same(
-        &answers,
-        &[
+    answers
+        == [
             UNFIT, UNFIT, UNFIT, UNFIT, GRANTED, UNFIT, UNFIT, GRANTED, UNFIT,
-        ],
-    )
+        ]
 }
 
 // Variable 63 is there and variable 64 isn't; an unfit access leaves the task open.
@@ -39,10 +37,7 @@ fn last_variable<P: Policy>(policy: &mut P) -> bool {
         policy.write(8, 63),
         policy.abort(7),
     ];
-    same(
-        &answers,
-        &[GRANTED, GRANTED, UNFIT, UNFIT, GRANTED, UNFIT, GRANTED],
-    )
+    answers == [GRANTED, GRANTED, UNFIT, UNFIT, GRANTED, UNFIT, GRANTED]
 }
 
 // The two questions are calls too.
