@@ -8,7 +8,6 @@ ghost use Rattle.clock.specs.Policies.{sound};
 ghost use Rattle.std.proofs.Common.{sym, subst, rules, arith};
 ghost use Rattle.policy.specs.Moves.{Keeps};
 
-use crate::changes::is_stale;
 use crate::state::Clock;
 use policy::{Granted, Policy, PolicyFault};
 
@@ -66,9 +65,7 @@ impl Policy for Clock {
 
     fn commit(&mut self, task: u8) -> Result<Granted, PolicyFault> {
         let transaction = self.transactions.open(task)?;
-        if (Self::STRICT || !transaction.writes.is_empty())
-            && is_stale(&self.versions, transaction)
-        {
+        if (Self::STRICT || !transaction.writes.is_empty()) && self.is_stale(transaction) {
             self.transactions.end(task);
             return Err(PolicyFault::CommitRefused);
         }
@@ -85,7 +82,7 @@ impl Policy for Clock {
 
     fn is_behind(&self, task: u8) -> Result<bool, PolicyFault> {
         let transaction = self.transactions.open(task)?;
-        Ok(is_stale(&self.versions, transaction))
+        Ok(self.is_stale(transaction))
     }
 
     fn has_written(&self, task: u8, variable: u8) -> Result<bool, PolicyFault> {

@@ -14,16 +14,6 @@ use policy::VARIABLES;
 use transactions::Transaction;
 use varset::VarSet;
 
-// Whether the transaction has read something that was written since it began.
-pub(crate) fn is_stale(versions: &[u32; VARIABLES], transaction: Transaction<ReadVersion>) -> bool
-    ensures { result ≡ some_below variables (stale_for (running transaction) (numbers versions.now)) }
-{
-    transaction
-        .reads
-        .iter()
-        .any(|v| versions[usize::from(v)] > transaction.note)
-}
-
 // Gives the number to what was written.
 fn stamp_versions(versions: &mut [u32; VARIABLES], written: VarSet, number: u32)
     ensures versions { StampedVersions (member written) number versions.old versions.new }
@@ -35,6 +25,16 @@ fn stamp_versions(versions: &mut [u32; VARIABLES], written: VarSet, number: u32)
 }
 
 impl Clock {
+    // Whether a transaction has read something that was written since it began.
+    pub(crate) fn is_stale(&self, transaction: Transaction<ReadVersion>) -> bool
+        ensures { result ≡ some_below variables (stale_for (running transaction) (held self.now).version) }
+    {
+        transaction
+            .reads
+            .iter()
+            .any(|v| self.versions[usize::from(v)] > transaction.note)
+    }
+
     // Smaller numbers in the same order. This changes no fact.
     fn renumber(&mut self)
         ensures numbers { held self.new ≡ renumbered (held self.old) }

@@ -8,7 +8,7 @@ use Rattle.varset.specs.Members.{member}
 use Rattle.varset.specs.declared.VarSet.{VarSet}
 use Rattle.clock.proofs.Reading.{number_at}
 use Rattle.varset.proofs.Listing.{gives_members, members_below, some_member}
-use Rattle.clock.proofs.changes.is_stale.Goals as goal
+use Rattle.clock.proofs.state.Clock.is_stale.Goals as goal
 
 pub any-requires-clause-callable : goal.any-requires-clause-callable
 any-requires-clause-callable c =
@@ -16,7 +16,7 @@ any-requires-clause-callable c =
 
 pub returns : goal.returns
 returns c =
-    let versions = c.args.versions.now in
+    let versions = c.args.self.now.versions in
     let newer : ℕ → Bool = λ v. ltb c.args.transaction.note (get_or versions v 0) in
     any_from_yields_List newer _ _ c.any.result c.any.ensures.ran (gives_members c.iter.result) (λ v b q k. search (rules, tests))
     ∙ some_member c.iter.result.rest newer
