@@ -1,9 +1,59 @@
--- How many digits a number has, and those that are left to put.
-use Rattle.std.proofs.Common.{◌≡◌, ℕ, zero, suc, ◌+◌, ◌*◌, ◌/◌, ◌%◌, ◌^◌, ◌<◌, ◌≤◌, max, List, [], ◌∷◌, ◌++◌, length, drop, set, decimal, sym, refl, ap, ◌∙◌, append_assoc, arith, length-append}
-use Rattle.std.proofs.Math.Nat.{pow-le-pow_right}
+-- How many digits a number has, and where they stand.
+use Rattle.std.proofs.Common.{◌≡◌, ℕ, zero, suc, ◌+◌, ◌-◌, ◌*◌, ◌/◌, ◌%◌, ◌^◌, ◌<◌, ◌≤◌, List, [], ◌∷◌, ◌++◌, length, take, drop, set, max, decimal, sym, refl, ap, ◌∙◌, append_assoc, arith, length-append, take-append-drop}
 use Rattle.std.proofs.lemmas.Fmt.{decimal_digit, decimal_step, decimal_by_steps, decimal_nonempty, length-decimal-le}
-use Rattle.std.proofs.lemmas.List.{drop-set}
+use Rattle.std.proofs.Math.Nat.{pow-le-pow_right}
 use Rattle.std.proofs.lemmas.Grind.{pow_more}
+use Rattle.std.proofs.lemmas.List.{take-set-le, take-take}
+
+-- a number from 10 on has one digit more than without its last one
+pub one_digit_more : (n : ℕ) → 10 ≤ n → n < 2 ^ 64 → length (decimal n) ≡ length (decimal (n / 10)) + 1
+one_digit_more n h small = ap length (decimal_step n h small) ∙ length-append (decimal (n / 10)) ((48 + n % 10) ∷ [])
+
+pub one_digit : (n : ℕ) → n < 10 → length (decimal n) ≡ 1
+one_digit n h = ap length (decimal_digit n h)
+
+-- a byte put at i stands in front of what stands from i + 1 on
+put_before : (s : List ℕ) (i e b : ℕ) → i < e → e ≤ length s → drop i (take e (set s i b)) ≡ b ∷ drop (i + 1) (take e s)
+put_before [] i e b h l = absurd (omega arith)
+put_before (x ∷ s) i zero b h l = absurd (omega arith)
+put_before (x ∷ s) zero (suc e) b h l = refl
+put_before (x ∷ s) (suc i) (suc e) b h l =
+    let k : suc i + 1 ≡ suc (i + 1) = omega arith in
+    put_before s i e b (omega arith) (omega arith) ∙ ap (λ (n : ℕ). b ∷ drop n (x ∷ take e s)) (sym k)
+
+-- one digit more
+pub digit_before : (n m i e b : ℕ) (s : List ℕ) → 10 ≤ m → m < 2 ^ 64 → b ≡ 48 + m % 10 → 0 < i → i ≤ e → e ≤ length s
+    → decimal n ≡ decimal m ++ drop i (take e s) → decimal n ≡ decimal (m / 10) ++ drop (i - 1) (take e (set s (i - 1) b))
+digit_before n m i e b s h small d i0 ie es x =
+    let k : i - 1 + 1 ≡ i = omega arith in
+    let p = put_before s (i - 1) e b (omega arith) es ∙ ap (λ (j : ℕ). b ∷ drop j (take e s)) k in
+    x ∙ ap (λ (y : List ℕ). y ++ drop i (take e s)) (decimal_step m h small) ∙ append_assoc (decimal (m / 10)) ((48 + m % 10) ∷ []) (drop i (take e s))
+    ∙ ap (λ (c : ℕ). decimal (m / 10) ++ (c ∷ drop i (take e s))) (sym d) ∙ ap (λ (y : List ℕ). decimal (m / 10) ++ y) (sym p)
+
+-- the first digit
+pub digit_first : (n m i e k b : ℕ) (s t : List ℕ) → m < 10 → b ≡ 48 + m → i ≡ k + 1 → i ≤ e → e ≤ length s
+    → decimal n ≡ decimal m ++ drop i (take e s) → take k s ≡ take k t → take e (set s (i - 1) b) ≡ take k t ++ decimal n
+digit_first n m i e k b s t h d ik ie es x y =
+    let j : i - 1 ≡ k = omega arith in
+    let u = take e (set s k b) in
+    let p = put_before s k e b (omega arith) es ∙ ap (λ (z : ℕ). b ∷ drop z (take e s)) (sym ik) in
+    let q : decimal n ≡ b ∷ drop i (take e s) = x ∙ ap (λ (z : List ℕ). z ++ drop i (take e s)) (decimal_digit m h ∙ ap (λ (c : ℕ). c ∷ []) (sym d)) in
+    let f : take k u ≡ take k t = take-take k e (set s k b) (omega arith) ∙ take-set-le k s k b (omega arith) ∙ y in
+    ap (λ (z : ℕ). take e (set s z b)) j ∙ sym (take-append-drop k u) ∙ ap (λ (z : List ℕ). z ++ drop k u) f
+    ∙ ap (λ (z : List ℕ). take k t ++ z) (p ∙ sym q)
+
+-- nothing stands from the end on
+pub nothing_after : (e : ℕ) (s : List ℕ) → drop e (take e s) ≡ []
+nothing_after zero s = refl
+nothing_after (suc e) [] = refl
+nothing_after (suc e) (x ∷ s) = nothing_after e s
+
+-- where the digits that are left to put end
+pub digits_left : (n m i e : ℕ) (s : List ℕ) → length (decimal n) ≤ e → i + length (decimal n) ≡ e + length (decimal m) → m < 2 ^ 64
+    → decimal n ≡ decimal m ++ drop i (take e s) → (0 < i) × (i ≤ e)
+digits_left n m i e s room h small x =
+    let l = ap length x ∙ length-append (decimal m) (drop i (take e s)) in
+    let d = decimal_nonempty m small in (omega (arith, h, d, room), omega (arith, h, l))
 
 -- a number is below the power of ten with as many zeros as it has digits
 below_power : (n : ℕ) → n < 2 ^ 64 → n < 10 ^ length (decimal n)
@@ -21,49 +71,3 @@ digits_counted n k small low high =
     let ten : 10 ^ 1 ≤ 10 ^ length (decimal n) = pow-le-pow_right {n = 10} (omega arith) least in
     let fewer : length (decimal n) ≤ k → 10 ^ length (decimal n) ≤ 10 ^ k = λ h. pow-le-pow_right {n = 10} (omega arith) h in
     grind (arith, most, least, above, ten, fewer, low)
-
--- a number from 10 on has one digit more than without its last one
-one_digit_more : (n : ℕ) → n < 2 ^ 64 → 10 ≤ n → length (decimal n) ≡ length (decimal (n / 10)) + 1
-one_digit_more n small h = ap length (decimal_step n h small) ∙ length-append (decimal (n / 10)) ((48 + n % 10) ∷ [])
-
-below_ten : (n : ℕ) → n < 2 ^ 64 → length (decimal n) ≡ 1 → n < 10
-below_ten n small h =
-    let more = one_digit_more n small in
-    let some = decimal_nonempty (n / 10) (omega arith) in grind (arith, more, some, h)
-
-from_ten : (n k : ℕ) → length (decimal n) ≡ suc (suc k) → 10 ≤ n
-from_ten n k h = let one : n < 10 → length (decimal n) ≡ 1 = λ l. ap length (decimal_digit n l) in grind (arith, one, h)
-
--- a byte put at i stands in front of those behind it
-drop_put : (s : List ℕ) (i b : ℕ) → i < length s → drop i (set s i b) ≡ b ∷ drop (suc i) s
-drop_put s i b h = let e : i + 1 ≡ suc i = omega arith in drop-set s i b h ∙ ap (λ (k : ℕ). b ∷ drop k s) e
-
--- the digits that are left to put in i places, where m is left of the number
-abbrev pub digits_left : ℕ → ℕ → List ℕ
-digits_left zero m = []
-digits_left (suc i) m = decimal m
-
--- of the number n, the places from i on hold the digits, but for those that are left
-pub record Put (n m i : ℕ) (s : List ℕ) : Type 0 where
-  pub small : m < 2 ^ 64
-  pub counted : length (digits_left i m) ≡ i
-  pub digits : decimal n ≡ digits_left i m ++ drop i s
-
--- one digit more
-pub put_more : (n m i : ℕ) (s : List ℕ) → i < length s → Put n m (suc i) s → Put n (m / 10) i (set s i (48 + m % 10))
-put_more n m zero s h x =
-    let one = below_ten m x.small x.counted in
-    let same : m ≡ m % 10 = omega arith in record {
-      small = (let f = x.small in omega arith);
-      counted = refl;
-      digits = x.digits ∙ ap (λ (ds : List ℕ). ds ++ drop 1 s) (decimal_digit m one ∙ ap (λ (d : ℕ). (48 + d) ∷ []) same) ∙ sym (drop_put s 0 (48 + m % 10) h);
-    }
-put_more n m (suc i) s h x =
-    let most = from_ten m i x.counted in
-    let more = one_digit_more m x.small most in record {
-      small = (let f = x.small in omega arith);
-      counted = (let f = x.counted in omega (arith, f, more));
-      digits = x.digits ∙ ap (λ (ds : List ℕ). ds ++ drop (suc (suc i)) s) (decimal_step m most x.small)
-          ∙ append_assoc (decimal (m / 10)) ((48 + m % 10) ∷ []) (drop (suc (suc i)) s)
-          ∙ ap (λ (ds : List ℕ). decimal (m / 10) ++ ds) (sym (drop_put s (suc i) (48 + m % 10) h));
-    }

