@@ -60,6 +60,19 @@ unfolding different
 different_le [] = omega arith
 different_le (n ∷ ns) = let r : different ns ≤ length ns = different_le ns in grind (arith, nat_tests)
 
+-- one more number is counted if it is below the bound and new
+pub below_new : (n : ℕ) (ns : List ℕ) (x : ℕ) → n < x → among ns n ≡ false → different_below (n ∷ ns) x ≡ different_below ns x + 1
+unfolding different_below
+below_new n ns x h e = grind (arith, nat_tests)
+
+pub below_known : (n : ℕ) (ns : List ℕ) (x : ℕ) → among ns n ≡ true → different_below (n ∷ ns) x ≡ different_below ns x
+unfolding different_below
+below_known n ns x e = grind (arith, nat_tests)
+
+pub below_above : (n : ℕ) (ns : List ℕ) (x : ℕ) → x ≤ n → different_below (n ∷ ns) x ≡ different_below ns x
+unfolding different_below
+below_above n ns x h = grind (arith, nat_tests)
+
 pub below_none : (x : ℕ) → different_below [] x ≡ 0
 unfolding different_below
 below_none x = refl

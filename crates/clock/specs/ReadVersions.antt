@@ -1,14 +1,20 @@
 -- The list of the read versions, for any number of tasks.
-use Rattle.std.specs.Prelude.{◌≡◌, ℕ, zero, suc, ◌+◌, ◌<◌, ◌≤◌, true, List, [], length, Some, None, Option, ◌==◌, slice_index_or, refl}
-use Rattle.std.proofs.Common.{sym, subst, ap, inl, inr, arith, add-one}
+use Rattle.std.specs.Prelude.{◌≡◌, ℕ, zero, suc, ◌+◌, ◌<◌, ◌≤◌, true, List, [], length, Some, None, Option, ◌==◌, ◌≢◌, ◌∷◌, slice_index_or, refl}
+use Rattle.std.proofs.Common.{sym, subst, ap, ◌∙◌, inl, inr, arith, add-one}
 use Rattle.std.proofs.lemmas.Bool.{cases_eq, or_cases, eqb-true, or_left, or_right, eq-eqb}
 use Rattle.policy.specs.Limits.{tasks}
+use Rattle.transactions.specs.declared.transaction.Transaction.{Transaction}
 use Rattle.transactions.specs.declared.Transactions.{Transactions}
 use Rattle.clock.specs.Told.{rows_at}
 use Rattle.clock.specs.Different.{among}
 use Rattle.clock.specs.Rows.{row, rows}
 use Rattle.clock.specs.Held.{Running}
 use Rattle.clock.specs.Steps.{read_versions, and_read_version}
+
+-- what isn't some transaction is none
+pub none_left : {A : Type 0} (o : Option A) → ((x : A) → o ≢ Some x) → o ≡ None
+none_left None h = refl
+none_left (Some x) h = absurd (h x refl)
 
 -- one more task
 pub read_versions_more : (n : ℕ) (ts : ℕ → Option Running) → read_versions (suc n) ts ≡ and_read_version (ts n) (read_versions n ts)
@@ -75,3 +81,17 @@ pub read_versions_next : (x : Transactions ℕ) (t : ℕ) → t < tasks
     → read_versions (t + 1) (rows x) ≡ and_read_version (row (slice_index_or x.rows t None)) (read_versions t (rows x))
 read_versions_next x t h =
     rw add-one (rw read_versions_more (ap (λ (o : Option Running). and_read_version o (read_versions t (rows x))) (rows_at x t h)))
+
+-- what one more task of a table adds, by its row
+module _ (p : Transactions ℕ) (t : ℕ) (there : t < tasks) where
+  pub read_versions_idle : ((x : Transaction ℕ) → slice_index_or p.rows t None ≢ Some x)
+      → read_versions (t + 1) (rows p) ≡ read_versions t (rows p)
+  read_versions_idle h =
+      read_versions_next p t there
+      ∙ ap (λ (o : Option (Transaction ℕ)). and_read_version (row o) (read_versions t (rows p))) (none_left (slice_index_or p.rows t None) h)
+
+  pub read_versions_begun : (x : Transaction ℕ) → slice_index_or p.rows t None ≡ Some x
+      → read_versions (t + 1) (rows p) ≡ x.note ∷ read_versions t (rows p)
+  read_versions_begun x e =
+      read_versions_next p t there
+      ∙ ap (λ (o : Option (Transaction ℕ)). and_read_version (row o) (read_versions t (rows p))) e
