@@ -5,7 +5,7 @@ ghost use Rattle.policy.specs.Facts.{some_below};
 ghost use Rattle.varset.specs.Members.{member};
 ghost use Rattle.clock.specs.Held.{stale_for};
 ghost use Rattle.clock.specs.Steps.{top, renumbered, stamped, published, NoFactChanged};
-ghost use Rattle.clock.specs.Rows.{running, numbers, StampedVersions};
+ghost use Rattle.clock.specs.Rows.{running, StampedVersions};
 ghost use Rattle.clock.specs.Clocks.{held};
 
 use crate::renumbering::{different_below, renumbered_transactions, renumbered_versions};
