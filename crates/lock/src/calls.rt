@@ -91,6 +91,7 @@ impl Policy for Lock {
         Ok(Granted)
     }
 
+    // It differs from a write in what it notes and in its fault: one function that is given both would be no shorter.
     fn read(&mut self, task: u8, variable: u8) -> Result<Granted, PolicyFault> {
         self.transactions.accessed(task, variable)?;
         if self.is_locked_by_other(task, variable) {

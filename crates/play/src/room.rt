@@ -12,6 +12,7 @@ pub(crate) struct Output<'a> {
     ghost fits: { used ≤ length room.now },
 }
 
+// No `fmt::Write` and `write!`: of a write that fails std says nothing, so that a refusal means too little room got no proof.
 impl<'a> Output<'a> {
     ghost use Rattle.play.specs.Room.{SameBuffer, Adds};
 

@@ -42,6 +42,7 @@ fn room_that_is_always_enough(rt: HostRuntime) {
 }
 
 // A text of `lines` lines `A 255`, behind `lock`, and then the bytes of `end`.
+// The schedule's tests have the same: a crate for these two lines, which both would list, would be no plainer.
 fn long_text(heap: Global, lines: usize, end: &[u8]) -> Result<Vec<u8>, Fail> {
     let middle = b"A 255\n".repeat(heap, lines)?;
     Ok([b"lock\n", middle.as_slice(), end].concat(heap)?)

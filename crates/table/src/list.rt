@@ -22,7 +22,8 @@ pub(crate) fn clear(reply: &mut [i32])
     reply.fill(0);
 }
 
-// Whether a list names variables only. `as` and no try_from: a place is below 16, and the fault could come in no call.
+// Whether a list names variables only. A match, since no method of `Option` makes a value the error.
+// `as` and no try_from: a place is below 16, and the fault could come in no call.
 fn check_variables(list: &[u8]) -> Result<(), TableFault>
     requires { length list.now ≤ longest_list }
     ensures { result ≡ passed tt (first_wrong 0 list.now) nothing }

@@ -9,7 +9,7 @@ use crate::stages::Stages;
 use crate::table::Table;
 use policy::{Policy, TASKS, VARIABLES};
 
-// Aborts every task that the policy has open.
+// Aborts every task that the policy has open. The loop counts tasks, since a number of a task is all that a policy takes.
 fn abort_all<P: Policy>(policy: &mut P)
     ensures aborted { AbortedBelow P.Policy tasks policy.old policy.new }
     ensures fresh { Fresh (P.Policy.facts policy.new) }
