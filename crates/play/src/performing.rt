@@ -9,7 +9,7 @@ use schedule::command::Command;
 use table::fault::TableFault;
 use table::table::Table;
 
-// Makes the call that the command is.
+// Makes the call that the command is. A match, since each command is a call of its own.
 pub fn perform<P: Policy>(table: &mut Table<P>, command: Command) -> Result<Outcome, TableFault>
     ensures { Performs P.Policy (call_of command) table.old (outcome_or result) table.new }
 {

@@ -25,7 +25,7 @@ pub fn room_for_length(length: usize) -> usize
     LONGEST_LINE * (length.min(LONGEST_TEXT) + 1)
 }
 
-// Runs a text and fills the buffer with its output, without a heap; the answer is how long the output is.
+// Runs a text and fills the buffer with its output; the answer is how long the output is. The buffer is the caller's: no heap here.
 pub fn run_into(text: &[u8], room: &mut [u8]) -> Result<usize, NoRoom>
     ensures filled { Filled text.now room.old result room.new }
     ensures enough { most_printed text.now ≤ length room.old → is_ok result ≡ true }

@@ -25,6 +25,7 @@ fn write(mut fields: Fields) -> Result<Command, Misfit>
     })
 }
 
+// By its letter. A match on the five letters, since each has fields of its own.
 fn lettered(letter: char, fields: Fields) -> Result<Command, Misfit>
     ensures { result ≡ by_letter letter fields.entry }
 {

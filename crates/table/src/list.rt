@@ -68,6 +68,7 @@ impl<P: Policy> Table<P> {
         ensures stages { self.new.stages ≡ self.old.stages }
         ensures shared { self.new.shared ≡ self.old.shared }
     {
+        // `as` here too: a list is short
         for (place, variable) in list.iter().enumerate() {
             let variable = Variable { value: *variable };
             let value = self.look(task, variable);

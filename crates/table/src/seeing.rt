@@ -22,6 +22,7 @@ impl<P: Policy> Table<P> {
         ensures { (v : ℕ) → slice_index_or result v (pos 0) ≡ sight P.Policy.facts self.now task v }
     {
         let mut seen = self.shared;
+        // `as`, since no place is above a variable's number
         for (place, value) in seen.iter_mut().enumerate() {
             *value = self.look(task, Variable { value: place as u8 });
         }
