@@ -23,6 +23,7 @@ pub(crate) fn different_below(transactions: &Transactions<ReadVersion>, bound: u
     ensures number { result ≡ new_number transactions.now bound }
     ensures counts { result ≡ how_many_below bound (among (read_versions tasks (rows transactions.now))) }
 {
+    // counted here: `filter` and `count` would want a cast, and a name for each row's place and the rows before it
     let rows = &transactions.rows;
     let mut different = 0;
     for (t, row) in rows.iter().enumerate() {

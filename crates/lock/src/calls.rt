@@ -37,7 +37,7 @@ impl Lock {
         (0..TASKS as u8).any(|other| other != task && self.locks(other, variable))
     }
 
-    // A copy of the transactions, to be changed and put in their place whole.
+    // A copy of the transactions, to be changed and put in their place whole: by rule, as the type's invariant is over all of them.
     fn copied(&self) -> Transactions<()>
         ensures { result ≡ self.now.transactions }
     {

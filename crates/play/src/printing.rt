@@ -26,7 +26,7 @@ impl Output<'_> {
             }
             Err(fault) => {
                 self.put_text(b" no ")?;
-                self.put_number(fault.number() as u64)
+                self.put_number(u64::from(fault.number()))
             }
         }
     }

@@ -13,6 +13,7 @@ pub(crate) struct Output<'a> {
 }
 
 // No `fmt::Write` and `write!`: of a write that fails std says nothing, so that a refusal means too little room got no proof.
+// That an output keeps its buffer is a clause of its own in each method, since it holds of a refusal too.
 impl<'a> Output<'a> {
     ghost use Rattle.play.specs.Room.{SameBuffer, Adds};
 
@@ -69,7 +70,7 @@ impl<'a> Output<'a> {
         if value < 0 {
             self.put_text(b"-")?;
         }
-        self.put_number(value.unsigned_abs() as u64)
+        self.put_number(u64::from(value.unsigned_abs()))
     }
 }
 

@@ -20,10 +20,7 @@ const NO_ROOM: i64 = -1;
 pub extern "C" fn polungaw_run(text: &[u8], out: &mut [u8]) -> i64
     ensures { Answered text.now out.old result out.new }
 {
-    match run_into(text, out) {
-        Ok(used) => used as i64,
-        Err(_) => NO_ROOM,
-    }
+    run_into(text, out).map_or(NO_ROOM, |used| used as i64)
 }
 
 // Room that is always enough for what is printed of a text of a given length.

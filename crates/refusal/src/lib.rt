@@ -12,6 +12,7 @@ pub trait Refusal {
 }
 
 // What never refuses. Nothing makes one: its field is this crate's own, and no function here answers one.
+// No `Infallible`: the gate refuses a contract that no call can meet, as one on a method of an empty type.
 #[derive(Clone, Copy, Debug, PartialEq, Eq)]
 pub struct NoRefusal {
     never: (),

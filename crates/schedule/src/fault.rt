@@ -33,6 +33,7 @@ impl<F> TextFault<F> {
 }
 
 // A line that is no command.
+// This and `RefusedLine` are two structs, since of one generic struct two `From` would meet at `F` = `Misfit`.
 #[derive(Clone, Copy, Debug, PartialEq, Eq)]
 pub struct BadLine {
     pub line: usize,

@@ -53,17 +53,13 @@ impl<'a> Fields<'a> {
         T::read(field).ok_or(wrong)
     }
 
-    // Nothing may follow; `field` is the number of the next field. A match, since no method of `Option` makes a value the error.
+    // Nothing may follow; `field` is the number of the next field.
     fn end(mut self, field: u8) -> Result<(), Misfit>
         ensures { Ends (no_end field) self.entry result }
     {
-        match self.next() {
-            Some(_) => Err(Misfit {
-                field,
-                expected: Expected::End,
-            }),
-            None => Ok(()),
-        }
+        let expected = Expected::End;
+        self.next()
+            .map_or(Ok(()), |_| Err(Misfit { field, expected }))
     }
 
     // The last field of a line, or `wrong`, or that another follows it.

@@ -25,7 +25,7 @@ fn write(mut fields: Fields) -> Result<Command, Misfit>
     })
 }
 
-// By its letter. A match on the five letters, since each has fields of its own.
+// By its letter. A match on five letters by rule: they are all that the format has.
 fn lettered(letter: char, fields: Fields) -> Result<Command, Misfit>
     ensures { result ≡ by_letter letter fields.entry }
 {
@@ -46,7 +46,7 @@ fn lettered(letter: char, fields: Fields) -> Result<Command, Misfit>
 }
 
 // The command that a line is, or the first field that makes it none.
-// A function and no `TryFrom`: it has two facts, each of its own name, where a conversion has one.
+// A function and no `TryFrom`: that a line is parsed says more than that it is converted.
 pub fn parse(line: &[u8]) -> Result<Command, Misfit>
     ensures value { result ≡ parsed line.now }
     ensures taken { Taken line.now result }

@@ -22,7 +22,7 @@ pub(crate) fn clear(reply: &mut [i32])
     reply.fill(0);
 }
 
-// Whether a list names variables only. A match, since no method of `Option` makes a value the error.
+// Whether a list names variables only. A match: with `map_or` and a closure the answer below got no proof.
 // `as` and no try_from: a place is below 16, and the fault could come in no call.
 fn check_variables(list: &[u8]) -> Result<(), TableFault>
     requires { length list.now ≤ longest_list }
@@ -72,6 +72,7 @@ impl<P: Policy> Table<P> {
         for (place, variable) in list.iter().enumerate() {
             let variable = Variable { value: *variable };
             let value = self.look(task, variable);
+            // a match, since an error clears the buffer
             match self.policy.read(u8::from(task), u8::from(variable)) {
                 Ok(_) => reply[place] = value,
                 Err(fault) => {

@@ -41,7 +41,7 @@ impl Stages {
     }
 
     // Whether the call comes at the right time for its task. A commit makes a broken task idle.
-    // One match on stage and call, and no step passed in: all that may come when stands here.
+    // By rule one match on the task's own stage and the call, which moves the stage in place: all that may come when stands here.
     pub(crate) fn admit(&mut self, task: Task, call: Call) -> Result<(), TableFault>
         ensures answer { result ≡ passed tt nothing (call_untimely call (slice_index_or self.old.all task idle)) }
         ensures moved { self.new.all ≡ all_once_called call task self.old.all }

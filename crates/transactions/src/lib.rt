@@ -15,6 +15,7 @@ pub use transaction::Transaction;
 use varset::{VarSet, is_variable};
 
 // The row of each task: its transaction, if it has one.
+// No Copy: its derive owes that a row of any N has a bounded size, which got no proof.
 // No impl Model: the rows are seen by functions of the task, and a function has no code.
 #[derive(Drop)]
 pub struct Transactions<N> {

@@ -12,6 +12,7 @@ use own::Own;
 use policy::{Granted, Policy, PolicyFault};
 
 // A request that a table makes of its policy: the task, and for an access the variable.
+// An enum and no closures: theorems speak of lists of them.
 #[derive(Clone, Copy)]
 enum Request {
     Begin(u8),
