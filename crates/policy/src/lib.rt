@@ -28,6 +28,7 @@ pub enum PolicyFault {
 #[derive(Clone, Copy, Debug, PartialEq, Eq)]
 pub struct Granted;
 
+// Tasks and variables are plain numbers in its calls, by rule: what a task sends may be any.
 pub trait Policy {
     ghost active: { Self → ℕ → Bool };
 
