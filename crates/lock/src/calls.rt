@@ -37,20 +37,11 @@ impl Lock {
         (0..TASKS as u8).any(|other| other != task && self.locks(other, variable))
     }
 
-    // A copy of the transactions, to be changed and put in their place whole: by rule, as the type's invariant is over all of them.
-    fn copied(&self) -> Transactions<()>
-        ensures { result ≡ self.now.transactions }
-    {
-        Transactions {
-            rows: self.transactions.rows,
-        }
-    }
-
     // Ends the task's transaction, and with it its locks.
     fn release(&mut self, task: u8)
         ensures { held self.new ≡ ended task (held self.old) }
     {
-        let mut next = self.copied();
+        let mut next = self.transactions;
         next.end(task);
         *self = Lock { transactions: next };
     }
@@ -85,7 +76,7 @@ impl Policy for Lock {
 
     fn begin(&mut self, task: u8) -> Result<Granted, PolicyFault> {
         self.transactions.idle(task)?;
-        let mut next = self.copied();
+        let mut next = self.transactions;
         next.begin(task, ());
         *self = Lock { transactions: next };
         Ok(Granted)
@@ -98,7 +89,7 @@ impl Policy for Lock {
             self.release(task);
             return Err(PolicyFault::ReadBarred(variable));
         }
-        let mut next = self.copied();
+        let mut next = self.transactions;
         next.read(task, variable);
         *self = Lock { transactions: next };
         Ok(Granted)
@@ -110,7 +101,7 @@ impl Policy for Lock {
             self.release(task);
             return Err(PolicyFault::WriteBarred(variable));
         }
-        let mut next = self.copied();
+        let mut next = self.transactions;
         next.write(task, variable);
         *self = Lock { transactions: next };
         Ok(Granted)

@@ -1,7 +1,7 @@
 // The open transaction of each task, with its read set and its write set.
 #![tactic(auto)]
 
-ghost use Rattle.std.specs.Prelude.{◌≡◌, ok_or, is_ok, IfOk, nat_lt, if◌then◌else◌};
+ghost use Rattle.std.specs.Prelude.{◌≡◌, ⊤, ok_or, is_ok, IfOk, nat_lt, if◌then◌else◌};
 ghost use Rattle.policy.specs.Limits.{variables};
 ghost use Rattle.policy.specs.declared.PolicyFault.{PolicyFault};
 ghost use Rattle.varset.specs.Members.{Holds};
@@ -11,16 +11,29 @@ ghost use Rattle.transactions.specs.Rows.{sets, notes, noted, IsOf, row as row_o
 mod transaction;
 
 use policy::{PolicyFault, TASKS};
+use std::alloc::AllocError;
 pub use transaction::Transaction;
 use varset::{VarSet, is_variable};
 
 // The row of each task: its transaction, if it has one.
-// No Copy: its derive owes that a row of any N has a bounded size, which got no proof.
+// Clone and Copy are written out: derived, they would owe that a row of any N has a bounded size.
 // No impl Model: the rows are seen by functions of the task, and a function has no code.
 #[derive(Drop)]
 pub struct Transactions<N> {
     pub rows: [Option<Transaction<N>>; TASKS],
 }
+
+impl<N: Copy> Clone for Transactions<N> {
+    ghost is_clone = { λ x y. y ≡ x };
+
+    ghost is_infallible = { λ _. ⊤ };
+
+    fn clone(&self) -> Result<Transactions<N>, AllocError> {
+        Ok(*self)
+    }
+}
+
+impl<N: Copy> Copy for Transactions<N> {}
 
 impl<N: Copy> Transactions<N> {
     pub fn new() -> Transactions<N>

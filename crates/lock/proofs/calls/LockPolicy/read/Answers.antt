@@ -1,7 +1,5 @@
-use Rattle.std.proofs.Common.{ap, ◌≡◌, false, sym, ◌∙◌, subst, rules}
+use Rattle.std.proofs.Common.{◌≡◌, false, sym, ◌∙◌, subst, rules}
 use Rattle.transactions.proofs.Sound.{sound}
-use Rattle.transactions.specs.Sets.{has_read}
-use Rattle.transactions.specs.Rows.{sets}
 use Rattle.lock.specs.Locks.{locked, Apart}
 use Rattle.lock.specs.After.{held}
 use Rattle.lock.specs.Apart.{apart_read}
@@ -10,7 +8,7 @@ use Rattle.lock.proofs.calls.LockPolicy.read.Goals as goal
 
 pub invariant_of-self : goal.invariant_of-self
 invariant_of-self c = record {
-  apart = subst Apart (sym (c.read.ensures.sets ∙ ap (λ x. has_read c.args.task c.args.variable (sets x)) c.copied-next.ensures))
+  apart = subst Apart (sym c.read.ensures.sets)
       (apart_read (held c.args.self.now) c.args.task c.args.variable (sound c.args.self.now.transactions) c.args.self.now.apart
       (sym c.is_locked_by_other.ensures ∙ c.if-is_locked_by_other.false));
 }
