@@ -3,6 +3,7 @@ ghost use Rattle.history.specs.Calls.{begin as begins, read as reads, write as w
 ghost use Rattle.table.specs.Views.{Performs, done_or, value_or};
 
 use crate::answer::Reading;
+use crate::asking::ask_read;
 use crate::fault::TableFault;
 use crate::stage::{Call, Stage};
 use crate::table::Table;
@@ -25,7 +26,7 @@ impl<P: Policy> Table<P> {
     {
         let (task, variable) = self.stages.check_access(task, variable)?;
         let value = self.look(task, variable);
-        let answer = self.policy.read(u8::from(task), u8::from(variable));
+        let answer = ask_read(&mut self.policy, u8::from(task), u8::from(variable));
         let _ = self.stages.break_if_refused(task, answer)?;
         Ok(Reading { value })
     }

@@ -3,6 +3,7 @@
 
 pub mod answer;
 pub mod apart;
+mod asking;
 pub mod calls;
 pub mod checks;
 pub mod collect;

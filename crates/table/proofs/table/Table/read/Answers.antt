@@ -14,14 +14,14 @@ returns-in_err-task g c sound =
 pub returns-in_err-break_if_refused : goal.returns-in_err-break_if_refused
 returns-in_err-break_if_refused g c sound =
     let p = err_from_is_err_and c.from_residual-in_err-break_if_refused.result c.from_residual-in_err-break_if_refused.ensures.1 in
-    rw (p.1, p.2) (read_refused_by g.P.Policy g.met.P.Policy.keeps g.met.P.Policy.proper c.args.task c.args.variable c.args.self.now c.read-answer.new.self
+    rw (p.1, p.2) (read_refused_by g.P.Policy g.met.P.Policy.keeps g.met.P.Policy.proper c.args.task c.args.variable c.args.self.now c.ask_read-answer.new.policy
     c.check_access.new.self.all sound c.in_ok-task.ensures.answer c.check_access.ensures.same c.from.ensures.0 c.from-2.ensures.0
-    c.in_err-break_if_refused.ensures.same c.read-answer.ensures.answer c.read-answer.ensures.moved c.in_err-break_if_refused.ensures.moved)
+    c.in_err-break_if_refused.ensures.same c.ask_read-answer.ensures.answer c.ask_read-answer.ensures.moved c.in_err-break_if_refused.ensures.moved)
 
 pub returns : goal.returns
 returns g c sound =
     let fits : SFits w32 c.look-value.result = search rules in
-    rw (to_z-of_z fits) (read_granted g.P.Policy g.met.P.Policy.keeps g.met.P.Policy.proper c.args.task c.args.variable c.args.self.now c.read-answer.new.self
+    rw (to_z-of_z fits) (read_granted g.P.Policy g.met.P.Policy.keeps g.met.P.Policy.proper c.args.task c.args.variable c.args.self.now c.ask_read-answer.new.policy
     c.check_access.new.self.all sound c.in_ok-task.ensures.answer c.check_access.ensures.same c.from.ensures.0 c.from-2.ensures.0
-    c.look-value.result c.look-value.ensures c.in_ok-break_if_refused.ensures.same c.read-answer.ensures.answer c.read-answer.ensures.moved
+    c.look-value.result c.look-value.ensures c.in_ok-break_if_refused.ensures.same c.ask_read-answer.ensures.answer c.ask_read-answer.ensures.moved
     c.in_ok-break_if_refused.ensures.moved)
