@@ -37,10 +37,10 @@ holds row w a b h run =
     let r = runs_over row.over (reverse row.lines) w.plain w.right a b h run.new run.made run.run run.calls in
     (r.answers, leaves row.over row.left b (shown row.over (reverse row.lines)) r.ends w.left)
 
--- a policy that was asked for the row's requests is left by a run of its calls
+-- a policy that was asked for the row's requests is the one that a run of its calls leaves
 pub plays : (row : Row) → WorkedOut row → (p q : PolicyOf row.over) → Fresh ((stated row.over).facts p) → Made row.over p
-    → AskedInTurn (stated row.over) (requests_for (reverse row.lines)) p q → (q : PolicyOf row.over) × Played row q
-plays row w p q fresh made asked = (q, has_run row w.plain w.right w.moves p q fresh made asked)
+    → AskedInTurn (stated row.over) (requests_for (reverse row.lines)) p q → Played row q
+plays row w = has_run row w.plain w.right w.moves
 
 pub locked_worked : WorkedOut locked
 unfolding some_below

@@ -2,7 +2,8 @@
 ghost use Rattle.std.specs.Prelude.{◌≡◌};
 ghost use Rattle.policy.specs.Answers.{Moved};
 ghost use Rattle.worked.specs.Requests.{answer_to, granted_move, refused_move, AskedInTurn};
-ghost use Rattle.worked.specs.Rows.{Worked};
+ghost use Rattle.worked.specs.Rows.{Played, Worked};
+ghost use Rattle.worked.specs.Rows.{locked, both_read, too_new, newly_read, behind_reads_on, behind_is_barred, behind_writer, eagerly_barred, owned, renumbered};
 
 use Request::{Begin, Commit, Read, Write};
 use clock::Clock;
@@ -75,18 +76,47 @@ fn play<P: Policy>(mut policy: P, requests: &[Request]) -> P
     policy
 }
 
-// Plays the ten schedules, each on its policy. Where the sixth request is refused, a table makes no seventh.
+// Plays the ten schedules, each on its policy, and gives the policies back. Where the sixth request is refused, a table makes no seventh.
+fn play_each() -> (
+    Lock,
+    Own,
+    Clock,
+    Own,
+    Clock,
+    Own,
+    Clock,
+    Eager<Clock>,
+    Own,
+    Clock,
+)
+    ensures locked { Played locked result.0 }
+    ensures both_read { Played both_read result.1 }
+    ensures too_new { Played too_new result.2 }
+    ensures newly_read { Played newly_read result.3 }
+    ensures behind_reads_on { Played behind_reads_on result.4 }
+    ensures behind_is_barred { Played behind_is_barred result.5 }
+    ensures behind_writer { Played behind_writer result.6 }
+    ensures eagerly_barred { Played eagerly_barred result.7 }
+    ensures owned { Played owned result.8 }
+    ensures renumbered { Played renumbered result.9 }
+{
+    (
+        play(Lock::new(), &TWO_READERS),
+        play(Own::new(), &TWO_READERS),
+        play(Clock::new(0), &LATE_READER),
+        play(Own::new(), &LATE_READER),
+        play(Clock::new(0), &READER_BEHIND),
+        play(Own::new(), &READER_BEHIND[..6]),
+        play(Clock::new(0), &WRITER_BEHIND),
+        play(Eager::new(Clock::new(0)), &WRITER_BEHIND[..6]),
+        play(Own::new(), &TWO_WRITERS),
+        play(Clock::new(u32::MAX), &LATE_READER),
+    )
+}
+
+// Plays the ten schedules.
 pub(crate) fn play_all()
     ensures { Worked }
 {
-    let _ = play(Lock::new(), &TWO_READERS);
-    let _ = play(Own::new(), &TWO_READERS);
-    let _ = play(Clock::new(0), &LATE_READER);
-    let _ = play(Own::new(), &LATE_READER);
-    let _ = play(Clock::new(0), &READER_BEHIND);
-    let _ = play(Own::new(), &READER_BEHIND[..6]);
-    let _ = play(Clock::new(0), &WRITER_BEHIND);
-    let _ = play(Eager::new(Clock::new(0)), &WRITER_BEHIND[..6]);
-    let _ = play(Own::new(), &TWO_WRITERS);
-    let _ = play(Clock::new(u32::MAX), &LATE_READER);
+    let _ = play_each();
 }

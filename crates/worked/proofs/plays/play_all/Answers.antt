@@ -1,25 +1,16 @@
-use Rattle.std.proofs.Common.{ap, ◌∙◌}
-use Rattle.clock.specs.Clocks.{held}
-use Rattle.worked.specs.Rows.{locked, both_read, too_new, newly_read, behind_reads_on, behind_is_barred, behind_writer, eagerly_barred, owned, renumbered}
 use Rattle.worked.proofs.Schedules.{◌and◌}
-use Rattle.worked.proofs.Worked.{plays, all_hold}
-use Rattle.worked.proofs.Worked.{locked_worked, both_read_worked, too_new_worked, newly_read_worked, behind_reads_on_worked}
-use Rattle.worked.proofs.Worked.{behind_is_barred_worked, behind_writer_worked, eagerly_barred_worked, owned_worked, renumbered_worked}
+use Rattle.worked.proofs.Worked.{all_hold}
 use Rattle.worked.proofs.plays.play_all.Goals as goal
 
 pub returns : goal.returns
-returns c = record {
-  hold = all_hold;
-  played =
-      plays locked locked_worked c.new.result c.play.result c.new.ensures.fresh c.new.ensures.holds c.play.ensures and
-      plays both_read both_read_worked c.new-2.result c.play-2.result c.new-2.ensures.fresh c.new-2.ensures.holds c.play-2.ensures and
-      plays too_new too_new_worked c.new-3.result c.play-3.result c.new-3.ensures.fresh c.new-3.ensures.state c.play-3.ensures and
-      plays newly_read newly_read_worked c.new-4.result c.play-4.result c.new-4.ensures.fresh c.new-4.ensures.holds c.play-4.ensures and
-      plays behind_reads_on behind_reads_on_worked c.new-5.result c.play-5.result c.new-5.ensures.fresh c.new-5.ensures.state c.play-5.ensures and
-      plays behind_is_barred behind_is_barred_worked c.new-6.result c.play-6.result c.new-6.ensures.fresh c.new-6.ensures.holds c.play-6.ensures and
-      plays behind_writer behind_writer_worked c.new-7.result c.play-7.result c.new-7.ensures.fresh c.new-7.ensures.state c.play-7.ensures and
-      plays eagerly_barred eagerly_barred_worked c.new-9.result c.play-8.result (c.new-9.ensures.fresh c.new-8.ensures.fresh)
-      (ap held c.new-9.ensures.holds ∙ c.new-8.ensures.state) c.play-8.ensures and
-      plays owned owned_worked c.new-10.result c.play-9.result c.new-10.ensures.fresh c.new-10.ensures.holds c.play-9.ensures and
-      plays renumbered renumbered_worked c.new-11.result c.play-10.result c.new-11.ensures.fresh c.new-11.ensures.state c.play-10.ensures and tt;
-}
+returns c =
+    let each = c.play_each.ensures in
+    record {
+      hold = all_hold;
+      played =
+          (c.play_each.result.0, each.locked) and (c.play_each.result.1, each.both_read) and
+          (c.play_each.result.2, each.too_new) and (c.play_each.result.3, each.newly_read) and
+          (c.play_each.result.4, each.behind_reads_on) and (c.play_each.result.5, each.behind_is_barred) and
+          (c.play_each.result.6, each.behind_writer) and (c.play_each.result.7, each.eagerly_barred) and
+          (c.play_each.result.8, each.owned) and (c.play_each.result.9, each.renumbered) and tt;
+    }
