@@ -1,5 +1,5 @@
 -- What each change of a table of transactions does to what a clock policy holds.
-use Rattle.std.proofs.Common.{◌≡◌, ℕ, Bool, true, false, cond, not, ◌&&◌, ◌||◌, eqb, ltb, List, Some, None, Option, sym, refl, ap, ap₂, ◌∙◌, inl, inr, arith}
+use Rattle.std.proofs.Common.{◌≡◌, ℕ, Bool, true, false, cond, not, ◌&&◌, ◌||◌, eqb, ltb, List, Some, None, Option, Ok, Err, ok_or, sym, refl, ap, ap₂, ◌∙◌, inl, inr, arith}
 use Rattle.std.proofs.lemmas.Bool.{cases_Bool, eq-eqb, eqb-true, and_right, and_parts}
 use Rattle.policy.specs.Limits.{tasks, variables}
 use Rattle.varset.specs.Members.{member, nothing, plus}
@@ -24,6 +24,12 @@ told_read v (Some n) r w = refl
 told_write : (v : ℕ) (n : Option ℕ) (r w : ℕ → Bool) → with_write v (told n r w) ≡ told n r (plus w v)
 told_write v None r w = refl
 told_write v (Some n) r w = refl
+
+-- an access that is fit gives the transaction in the row
+pub row_found : {A E : Type 0} (fit : Bool) (o : Option A) (why : E) (x : A) → Ok x ≡ cond fit (ok_or o why) (Err why) → o ≡ Some x
+row_found true (Some y) why x e = cc
+row_found true None why x e = cc
+row_found false o why x e = cc
 
 module _ (clock : ℕ) (ns : List ℕ) (x y : Transactions ℕ) (t : ℕ) where
   -- one row changes

@@ -53,7 +53,8 @@ impl Policy for Clock {
             self.transactions.end(task);
             return Err(PolicyFault::ReadBarred(variable));
         }
-        self.transactions.read(task, variable);
+        self.transactions
+            .put(task, Some(transaction.with_read(variable)));
         Ok(Granted)
     }
 

@@ -1,3 +1,3 @@
-mod Puts
+pub mod Puts
 pub mod Sound
 pub mod Others
