@@ -1,7 +1,22 @@
 -- A text cut at the first place of a byte, and its fields and lines.
-use Rattle.std.proofs.Common.{◌≡◌, ℕ, suc, ◌<◌, false, eqb, List, [], ◌∷◌, ◌++◌, length, Some, None, Option, refl, ap, ◌∙◌, arith, Bor}
+use Rattle.std.proofs.Common.{◌≡◌, ℕ, suc, ◌+◌, ◌-◌, ◌<◌, false, eqb, List, [], ◌∷◌, ◌++◌, length, get_or, take, drop, Some, None, Option, sym, refl, ap, ◌∙◌, arith, Bor}
+use native.Mathlib.Nat.{sub-zero}
+use Rattle.std.proofs.lemmas.List.{take_rest, drop_more, take-append-drop, length-take-le, get_or-take}
 use Rattle.std.proofs.lemmas.Bool.Decides.{nat_tests}
 use Rattle.schedule.specs.Pieces.{space, line_feed, fields, lines, Clear, Cut, fields_left, lines_left}
+
+-- cut at index i, the first that has the byte b; the parts are written as slices give them
+pub cut_at : (s : List ℕ) (b i : ℕ) → i < length s → get_or s i 0 ≡ b → ((k : ℕ) → k < i → get_or s k 0 ≡ b → ⊥)
+    → (s ≡ take (i - 0) s ++ (b ∷ take (length s - (i + 1)) (drop (i + 1) s))) × Clear b (take (i - 0) s)
+cut_at s b i h e before = rw (sub-zero, take_rest s (i + 1)) (whole, clear)
+  where
+    whole : s ≡ take i s ++ (b ∷ drop (i + 1) s)
+    whole = sym (take-append-drop i s) ∙ ap (λ (r : List ℕ). take i s ++ r) (drop_more s i 0 h ∙ ap (λ (x : ℕ). x ∷ drop (i + 1) s) e)
+
+    clear : Clear b (take i s)
+    clear k l q =
+        let n : k < i = omega (arith, length-take-le i s (omega arith)) in
+        before k n (sym (get_or-take i s k 0 n) ∙ q)
 
 apart : (b c : ℕ) → (b ≡ c → ⊥) → eqb b c ≡ false
 apart b c ne = grind (arith, nat_tests)

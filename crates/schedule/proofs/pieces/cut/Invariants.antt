@@ -1,0 +1,6 @@
+use Rattle.std.proofs.Common.{◌≡◌, ℕ, ◌<◌, get_or}
+use Rattle.schedule.proofs.pieces.cut.Given as goal
+
+-- no byte so far is the one to cut at
+abbrev pub invariant-loop-i : goal.invariant-loop-i
+invariant-loop-i l = (k : ℕ) → k < l.i → get_or l.text k 0 ≡ l.at → ⊥
