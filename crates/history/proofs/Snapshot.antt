@@ -1,5 +1,5 @@
 -- Snapshots: a begin, reads and an end in one call.
-use Rattle.std.proofs.Common.{◌≡◌, ℕ, ◌<◌, Bool, true, false, ◌≢◌, ◌⊎◌, List, [], ◌∷◌, ◌++◌, map, ℤ, sym, refl, ap, ◌∙◌, subst, inl, inr, append-nil, arith, rules}
+use Rattle.std.proofs.Common.{◌≡◌, ℕ, ◌<◌, Bool, true, false, ◌≢◌, ◌⊎◌, List, [], ◌∷◌, ◌++◌, map, ℤ, sym, refl, ap, ◌∙◌, subst, inl, inr, append-nil, arith}
 use Rattle.std.proofs.lemmas.Bool.{both_ways}
 use mathlib.Core.Path.{fun_ext}
 use mathlib.Core.List.Permᴰ
@@ -21,7 +21,7 @@ use Rattle.history.proofs.Effects.{Snaps, BarsSnap}
 use Rattle.history.proofs.Invariant.{Settled, Invariant}
 use Rattle.history.proofs.Ledgers.{Grows, rival_grows, settled_grows, whole_grows}
 use Rattle.history.proofs.Others.{unended_all, append_shift, stays, Undisturbed, undisturbed_standing, all_active, all_idle, same_order}
-use Rattle.history.proofs.End.{beside_spared}
+use Rattle.history.proofs.End.{Relieved, beside_spared}
 use Rattle.history.proofs.Begin.{taken_rival}
 
 module _ (strict : Bool) (t : ℕ) (vs : List ℕ) (see : ℕ → ℤ) (a b : View) (L : Ledger) (order : List Transaction) (inv : Invariant a L order) (step : Snaps strict t vs see a b) where
@@ -148,7 +148,21 @@ module _ (t v : ℕ) (vs : List ℕ) (a b : View) (L : Ledger) (order : List Tra
   }
 
   undisturbed_r : (u first : ℕ) → first < calls L → u ≢ t → a.facts.active u ≡ true → Undisturbed a b L'' u first
-  undisturbed_r u first h ne l = search (rules, rival_r, beside_spared)
+  undisturbed_r u first h ne l = record {
+    reads = λ w. p.reads w ∙ s.sets.reads w;
+    writes = λ w. p.writes w ∙ s.sets.writes w;
+    pending = step.quiet.pending u ne;
+    behind = p.behind ∙ s.behind;
+    no_read_kept = λ k w e. p.no_read_kept (s.behind ∙ k) w (s.bars.no_read w ∙ e);
+    no_read_new = λ k w e. elim (p.no_read_new w e) [ inl c ↦ inl (sym (s.bars.no_read w) ∙ c) | inr m ↦ inr (rival_r u first w ne h m) ];
+    no_write_new = λ k w e. elim (p.no_write_new w e) [ inl c ↦ inl (sym (s.bars.no_write w) ∙ c) | inr m ↦ inr (rival_r u first w ne h m) ];
+  }
+    where
+      s : Unchanged a.facts step.opened u
+      s = step.begun.others u ne l
+
+      p : Relieved vs step.opened b.facts u
+      p = beside_spared (step.earlier.others u ne (step.begun.only u ne ∙ l)) (step.ends.others u ne (step.earlier.only u ne ∙ step.begun.only u ne ∙ l))
 
   all_settled_r : (U : Transaction) → Memᴰ U (R ∷ L.ended) → Settled L'' U
   all_settled_r U (Memᴰ.head e) = subst (λ (X : Transaction). Settled L'' X) (sym e) (record {
